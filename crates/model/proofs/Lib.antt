@@ -1,0 +1,6 @@
+pub mod Keeping
+pub mod Kept
+pub mod Lists
+pub mod Lookups
+pub mod Places
+pub mod Tables

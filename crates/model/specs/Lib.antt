@@ -1,0 +1,10 @@
+pub mod Bounds
+pub mod Calls
+pub mod Held
+pub mod Lists
+pub mod Lookup
+pub mod Of
+pub mod Records
+pub mod Refusals
+pub mod Rewrite
+pub mod System

@@ -1,0 +1,6 @@
+pub mod Analysis
+pub mod Bounds
+pub mod Demand
+pub mod Quotient
+pub mod Times
+pub mod Windows

@@ -1,0 +1,122 @@
+// What one question about a set works out once.
+ghost use mathlib.Core.Path.{_≡_};
+ghost use Prim.Native.Nat.{ℕ, _<_, _≤_};
+ghost use lib.ListN.{length, getD, take};
+ghost use mathlib.Core.List.{List};
+ghost use Rattle.model.specs.Of.{of};
+ghost use Rattle.timing.specs.Analysis.{Describes};
+ghost use Rattle.timing.specs.Demand.{Judged};
+ghost use Rattle.timing.specs.Times.{Covers, InTable, ceiling, loads as loads-of, holds as holds-of, time};
+ghost use Rattle.timing.specs.Windows.{demand-at, task as task-at};
+use crate::demand::Load;
+use crate::demand::window;
+use crate::holds::Hold;
+use crate::holds::blocking;
+use crate::holds::ceilings;
+use model::kinds::MAX_SECTIONS;
+use model::kinds::MAX_TASKS;
+use model::lookup::find;
+use model::roster::Roster;
+
+const IDLE: Load = Load {
+    time: 0,
+    cost: 0,
+    period: 0,
+    jitter: 0,
+};
+
+const FREE: Hold = Hold {
+    owner: 0,
+    ceiling: 0,
+    time: 0,
+};
+
+fn time_of(cycles: u32, clock: u32) -> u64
+    requires { ⌜ 1 ≤ clock ⌝ }
+    ensures { λ r. ⌜ r ≡ time cycles clock ⌝ }
+{
+    (cycles as u64 * 1000).div_ceil(clock as u64)
+}
+
+// The loads of the tasks, at the front.
+fn loads(roster: &Roster, set: &[u8]) -> [Load; MAX_TASKS]
+    requires long { ⌜ Covers (of (now roster)) (now set) ⌝ }
+    requires steps { ⌜ InTable (of (now roster)) (now set) ⌝ }
+    ensures value { λ r. ⌜ take (length (of (now (roster .entry)) .tasks)) r ≡ loads-of (of (now (roster .entry))) (now (set .entry)) ⌝ }
+    ensures len { λ r. ⌜ length r ≡ 16 ⌝ }
+{
+    let steps = roster.steps();
+    let switch = roster.switch_time() as u64;
+    let mut loads = [IDLE; MAX_TASKS];
+    for (i, task) in roster.tasks().iter().enumerate() {
+        let time = time_of(task.cycles, steps[set[i] as usize].clock);
+        loads[i] = Load {
+            time,
+            cost: time + switch,
+            period: task.period as u64,
+            jitter: task.jitter as u64,
+        };
+    }
+    loads
+}
+
+// The holds of the sections, at the front.
+fn holds(roster: &Roster, set: &[u8]) -> [Hold; MAX_SECTIONS]
+    requires long { ⌜ Covers (of (now roster)) (now set) ⌝ }
+    requires steps { ⌜ InTable (of (now roster)) (now set) ⌝ }
+    ensures value { λ r. ⌜ take (length (of (now (roster .entry)) .sections)) r ≡ holds-of (of (now (roster .entry))) (now (set .entry)) ⌝ }
+    ensures len { λ r. ⌜ length r ≡ 32 ⌝ }
+{
+    let steps = roster.steps();
+    let tasks = roster.tasks();
+    let ceilings = ceilings(roster.sections());
+    let mut holds = [FREE; MAX_SECTIONS];
+    for (i, section) in roster.sections().iter().enumerate() {
+        let step = match find(tasks, section.owner) {
+            Some(at) => set[at] as usize,
+            None => 0,
+        };
+        holds[i] = Hold {
+            owner: section.owner,
+            ceiling: ceilings[section.resource as usize],
+            time: time_of(section.cycles, steps[step].clock),
+        };
+    }
+    holds
+}
+
+// The loads and the holds that a set gives a roster.
+#[derive(Clone, Copy)]
+pub(crate) struct Analysis {
+    loads: [Load; MAX_TASKS],
+    holds: [Hold; MAX_SECTIONS],
+}
+
+impl Analysis {
+    pub(crate) fn new(roster: &Roster, set: &[u8]) -> Analysis
+        requires long { ⌜ Covers (of (now roster)) (now set) ⌝ }
+        requires steps { ⌜ InTable (of (now roster)) (now set) ⌝ }
+        ensures { λ r. ⌜ Describes (of (now (roster .entry))) (now (set .entry)) r ⌝ }
+    {
+        Analysis {
+            loads: loads(roster, set),
+            holds: holds(roster, set),
+        }
+    }
+
+    // The window of the task at a place, where it meets the deadline.
+    pub(crate) fn window(&self, roster: &Roster, place: usize) -> Option<u64>
+        requires place { ⌜ place < length (of (now roster) .tasks) ⌝ }
+        requires describes { ⌜ ((set : List ℕ) × Covers (of (now roster)) set × InTable (of (now roster)) set × Describes (of (now roster)) set (now self)) ⌝ }
+        ensures { λ r. ⌜ ((set : List ℕ) → Describes (of (now (roster .entry))) set (now (self .entry)) → Judged (demand-at (of (now (roster .entry))) set place) (task-at (of (now (roster .entry))) place .jitter) (task-at (of (now (roster .entry))) place .deadline) r) ⌝ }
+    {
+        let task = roster.tasks()[place];
+        let blocked = blocking(&self.holds[0..roster.sections().len()], task.priority);
+        window(
+            self.loads[place].time + blocked,
+            &self.loads[0..place],
+            task.jitter as u64,
+            task.deadline as u64,
+        )
+    }
+}

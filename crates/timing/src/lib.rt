@@ -1,0 +1,5 @@
+// Times and response windows of a roster's tasks.
+mod analysis;
+mod demand;
+mod holds;
+pub mod windows;

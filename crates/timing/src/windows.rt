@@ -1,0 +1,56 @@
+// The windows of a roster's tasks under a set of steps.
+ghost use mathlib.Core.Path.{_≡_};
+ghost use Prim.Native.Nat.{_≤_};
+ghost use lib.ListN.{length};
+ghost use Rattle.std.specs.Orderings.{Decides};
+ghost use Rattle.std.specs.Results.{Cases};
+ghost use Rattle.model.specs.Of.{of};
+ghost use Rattle.model.specs.Refusals.{call-number, AllKept, First, Verdict};
+ghost use Rattle.timing.specs.Times.{Covers, InTable};
+ghost use Rattle.timing.specs.Windows.{WindowsRule, Filled};
+use crate::analysis::Analysis;
+use model::refusals::CallRefusal;
+use model::roster::Roster;
+
+// Whether the first places of a list are steps of the table.
+fn in_table(roster: &Roster, set: &[u8]) -> bool
+    ensures { λ r. ⌜ Decides r (InTable (of (now (roster .entry))) (now (set .entry))) ⌝ }
+{
+    let steps = roster.steps().len();
+    for step in set.iter().take(roster.tasks().len()) {
+        if *step as usize >= steps {
+            return false;
+        }
+    }
+    true
+}
+
+fn judge(roster: &Roster, set: &[u8], out: &[u32]) -> Result<(), CallRefusal>
+    ensures { λ r. ⌜ Verdict call-number (WindowsRule (of (now (roster .entry))) (now (set .entry)) (now (out .entry))) r ⌝ }
+{
+    let tasks = roster.tasks().len();
+    if set.len() < tasks || out.len() < tasks {
+        return Err(CallRefusal::ShortList);
+    }
+    if !in_table(roster, set) {
+        return Err(CallRefusal::NoSuchStep);
+    }
+    Ok(())
+}
+
+// Writes the window of each task, 0 for one that misses its deadline.
+pub fn windows(roster: &Roster, set: &[u8], out: &mut [u32]) -> Result<(), CallRefusal>
+    ensures { λ r. ⌜ Cases r
+        (λ _. AllKept (WindowsRule (of (now (roster .entry))) (now (set .entry)) (now (out .entry))) × Filled (of (now (roster .entry))) (now (set .entry)) (now (out .entry)) (now (out .exit)))
+        (λ e. First call-number (WindowsRule (of (now (roster .entry))) (now (set .entry)) (now (out .entry))) e × (now (out .exit) ≡ now (out .entry))) ⌝ }
+{
+    judge(roster, set, out)?;
+    let analysis = Analysis::new(roster, set);
+    for i in 0..roster.tasks().len() {
+        out[i] = match analysis.window(roster, i) {
+            Some(w) => w as u32,
+            None => 0,
+        };
+    }
+    Ok(())
+}
