@@ -49,13 +49,10 @@ keeps-loaded steps switch rule = record {
   apart = tt;
 }
 
-new-rules : AllKept (LoadRule (new-system .steps) 0)
+pub new-rules : AllKept (LoadRule (new-system .steps) 0)
 new-rules Count = (omega arith, omega arith)
 new-rules Range = (((omega arith, omega arith, omega arith, omega arith), tt), omega arith)
 new-rules Falling = (tt, tt)
-
-pub keeps-new : Keeps new-system
-keeps-new = keeps-loaded (new-system .steps) 0 new-rules
 
 pub same-system : (switch : ℕ) {a b : List Step} {t u : List Task} {c d : List Section} → a ≡ b → t ≡ u → c ≡ d → system a switch t c ≡ system b switch u d
 same-system switch steps tasks sections = rw (steps, tasks, sections)

@@ -1,2 +1,9 @@
-pub mod Quotients
+pub mod Chosen
 pub mod Demands
+pub mod Blockers
+pub mod Described
+pub mod Judgements
+pub mod Limits
+pub mod Loads
+pub mod Quotients
+pub mod Systems

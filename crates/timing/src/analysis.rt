@@ -1,12 +1,16 @@
 // What one question about a set works out once.
+ghost use mathlib.Core.Bool.{true};
 ghost use mathlib.Core.Path.{_≡_};
 ghost use Prim.Native.Nat.{ℕ, _<_, _≤_};
 ghost use lib.ListN.{length, getD, take};
 ghost use mathlib.Core.List.{List};
+ghost use Rattle.std.specs.Options.{isSome};
+ghost use Rattle.model.specs.Lookup.{rank};
 ghost use Rattle.model.specs.Of.{of};
+ghost use Rattle.model.specs.System.{task-at as task-of};
 ghost use Rattle.timing.specs.Analysis.{Describes};
 ghost use Rattle.timing.specs.Demand.{Judged};
-ghost use Rattle.timing.specs.Times.{Covers, InTable, ceiling, loads as loads-of, holds as holds-of, time};
+ghost use Rattle.timing.specs.Times.{Covers, InTable, clock, time, loads as loads-of, holds as holds-of};
 ghost use Rattle.timing.specs.Windows.{demand-at, task as task-at};
 use crate::demand::Load;
 use crate::demand::window;
@@ -31,11 +35,27 @@ const FREE: Hold = Hold {
     time: 0,
 };
 
-fn time_of(cycles: u32, clock: u32) -> u64
-    requires { ⌜ 1 ≤ clock ⌝ }
-    ensures { λ r. ⌜ r ≡ time cycles clock ⌝ }
+// The time of so many cycles at a step.
+fn time_at(roster: &Roster, cycles: u32, step: u8) -> u64
+    requires { ⌜ step < length (of (now roster) .steps) ⌝ }
+    ensures { λ r. ⌜ r ≡ time cycles (clock (of (now (roster .entry))) step) ⌝ }
 {
+    let clock = roster.steps()[step as usize].clock;
     (cycles as u64 * 1000).div_ceil(clock as u64)
+}
+
+// The step that a set names for the task of a priority.
+fn step_of(roster: &Roster, set: &[u8], priority: u32) -> u8
+    requires long { ⌜ Covers (of (now roster)) (now set) ⌝ }
+    requires steps { ⌜ InTable (of (now roster)) (now set) ⌝ }
+    requires stands { ⌜ isSome (task-of priority (of (now roster) .tasks)) ≡ true ⌝ }
+    ensures value { λ r. ⌜ r ≡ getD (now (set .entry)) (rank priority (of (now (roster .entry)) .tasks)) 0 ⌝ }
+    ensures named { λ r. ⌜ r < length (of (now (roster .entry)) .steps) ⌝ }
+{
+    match find(roster.tasks(), priority) {
+        Some(at) => set[at],
+        None => 0,
+    }
 }
 
 // The loads of the tasks, at the front.
@@ -45,11 +65,10 @@ fn loads(roster: &Roster, set: &[u8]) -> [Load; MAX_TASKS]
     ensures value { λ r. ⌜ take (length (of (now (roster .entry)) .tasks)) r ≡ loads-of (of (now (roster .entry))) (now (set .entry)) ⌝ }
     ensures len { λ r. ⌜ length r ≡ 16 ⌝ }
 {
-    let steps = roster.steps();
     let switch = roster.switch_time() as u64;
     let mut loads = [IDLE; MAX_TASKS];
     for (i, task) in roster.tasks().iter().enumerate() {
-        let time = time_of(task.cycles, steps[set[i] as usize].clock);
+        let time = time_at(roster, task.cycles, set[i]);
         loads[i] = Load {
             time,
             cost: time + switch,
@@ -67,19 +86,14 @@ fn holds(roster: &Roster, set: &[u8]) -> [Hold; MAX_SECTIONS]
     ensures value { λ r. ⌜ take (length (of (now (roster .entry)) .sections)) r ≡ holds-of (of (now (roster .entry))) (now (set .entry)) ⌝ }
     ensures len { λ r. ⌜ length r ≡ 32 ⌝ }
 {
-    let steps = roster.steps();
-    let tasks = roster.tasks();
     let ceilings = ceilings(roster.sections());
     let mut holds = [FREE; MAX_SECTIONS];
     for (i, section) in roster.sections().iter().enumerate() {
-        let step = match find(tasks, section.owner) {
-            Some(at) => set[at] as usize,
-            None => 0,
-        };
+        let step = step_of(roster, set, section.owner);
         holds[i] = Hold {
             owner: section.owner,
             ceiling: ceilings[section.resource as usize],
-            time: time_of(section.cycles, steps[step].clock),
+            time: time_at(roster, section.cycles, step),
         };
     }
     holds

@@ -46,7 +46,7 @@ pub(crate) fn ceilings(sections: &[Section]) -> [u32; RESOURCES]
 pub(crate) fn blocking(holds: &[Hold], priority: u32) -> u64
     ensures { λ r. ⌜ r ≡ longest priority (now (holds .entry)) ⌝ }
 {
-    let mut longest = 0;
+    let mut longest: u64 = 0;
     for hold in holds {
         if hold.blocks(priority) {
             longest = longest.max(hold.time);

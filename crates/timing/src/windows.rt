@@ -47,10 +47,7 @@ pub fn windows(roster: &Roster, set: &[u8], out: &mut [u32]) -> Result<(), CallR
     judge(roster, set, out)?;
     let analysis = Analysis::new(roster, set);
     for i in 0..roster.tasks().len() {
-        out[i] = match analysis.window(roster, i) {
-            Some(w) => w as u32,
-            None => 0,
-        };
+        out[i] = analysis.window(roster, i).unwrap_or(0) as u32;
     }
     Ok(())
 }

@@ -4,7 +4,7 @@ ghost use mathlib.Core.Bool.{Bool};
 ghost use Rattle.model.specs.Calls.{LoadRule, loaded, EnterRule, entered, AlterRule, altered, StrikeRule, struck, SectionRule, section-entered, SectionStrikeRule, section-struck};
 ghost use Rattle.model.specs.Of.{of};
 ghost use Rattle.model.specs.Records.{other-priority, other-owner, other-section};
-ghost use Rattle.model.specs.Refusals.{steps-number, roster-number, Outcome};
+ghost use Rattle.model.specs.Refusals.{steps-number, roster-number, AllKept, Outcome};
 ghost use Rattle.model.specs.System.{new-system};
 use super::Roster;
 use super::judges::judge_table;
@@ -17,6 +17,11 @@ use crate::refusals::RosterRefusal;
 use crate::refusals::StepsRefusal;
 use crate::table::Table;
 use crate::table::calls::Choice;
+
+const SLOWEST: Step = Step {
+    clock: 1_000,
+    voltage: 1,
+};
 
 // What fills the unused places of a table.
 const NO_TASK: Task = Task {
@@ -74,22 +79,26 @@ impl Choice<Section> for OtherSection as ByOwnerAndResource {
 }
 
 impl Roster {
+    // A step table, and neither task nor section.
+    fn bare(steps: &[Step], switch: u32) -> Roster
+        requires { ⌜ AllKept (LoadRule (now steps) switch) ⌝ }
+        ensures { λ r. ⌜ of r ≡ loaded (now (steps .entry)) switch ⌝ }
+    {
+        let mut table = Table::empty(SLOWEST);
+        table.copy_from(steps);
+        Roster {
+            steps: table,
+            switch,
+            tasks: Table::empty(NO_TASK),
+            sections: Table::empty(NO_SECTION),
+        }
+    }
+
     // One step of the slowest clock and the lowest voltage, and no task.
     pub fn new() -> Roster
         ensures { λ r. ⌜ of r ≡ new-system ⌝ }
     {
-        let slowest = Step {
-            clock: 1_000,
-            voltage: 1,
-        };
-        let mut steps = Table::empty(slowest);
-        steps.push(slowest);
-        Roster {
-            steps,
-            switch: 0,
-            tasks: Table::empty(NO_TASK),
-            sections: Table::empty(NO_SECTION),
-        }
+        Roster::bare(&[SLOWEST], 0)
     }
 
     pub fn steps(&self) -> &[Step]
@@ -123,10 +132,7 @@ impl Roster {
         ensures { λ r. ⌜ Outcome steps-number (LoadRule (now (steps .entry)) switch) (of (now (self .entry))) (loaded (now (steps .entry)) switch) (of (now (self .exit))) r ⌝ }
     {
         judge_table(steps, switch)?;
-        self.steps.copy_from(steps);
-        self.switch = switch;
-        self.tasks.clear();
-        self.sections.clear();
+        *self = Roster::bare(steps, switch);
         Ok(())
     }
 
@@ -134,7 +140,7 @@ impl Roster {
         ensures { λ r. ⌜ Outcome roster-number (EnterRule (of (now (self .entry))) task) (of (now (self .entry))) (entered (of (now (self .entry))) task) (of (now (self .exit))) r ⌝ }
     {
         self.judge_entry(&task)?;
-        let at = rank(self.tasks.as_slice(), task.priority);
+        let at = rank(self.tasks(), task.priority);
         self.tasks.insert(at, task);
         Ok(())
     }
@@ -144,7 +150,7 @@ impl Roster {
         ensures { λ r. ⌜ Outcome roster-number (AlterRule (of (now (self .entry))) task) (of (now (self .entry))) (altered (of (now (self .entry))) task) (of (now (self .exit))) r ⌝ }
     {
         self.judge_alteration(&task)?;
-        if let Some(at) = find(self.tasks.as_slice(), task.priority) {
+        if let Some(at) = find(self.tasks(), task.priority) {
             self.tasks.alter(at, task);
         }
         Ok(())

@@ -74,12 +74,6 @@ impl<T: Copy, const N: usize> Table<T, N> {
         self.len = kept;
     }
 
-    pub(crate) fn clear(&mut self)
-        ensures { λ _. ⌜ held (now (self .exit)) ≡ [] ⌝ }
-    {
-        self.len = 0;
-    }
-
     // Holds the items of `source`, and nothing else.
     pub(crate) fn copy_from(&mut self, source: &[T])
         requires { ⌜ length (now source) ≤ N ⌝ }

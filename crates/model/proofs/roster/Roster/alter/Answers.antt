@@ -27,18 +27,18 @@ replaced r t slice left at is place put =
 pub ghost-self : need.ghost-self
 ghost-self c =
     let r = c .args .self .now in
-    let tasks = replaced r (c .args .task) _ _ _ (c .as-slice .ensures) (c .in-Some .ensures tt) (c .alter .ensures) in
+    let tasks = replaced r (c .args .task) _ _ _ (c .tasks .ensures) (c .in-Some .ensures tt) (c .alter .ensures) in
     let keeps = keeps-altered (of r) (c .args .task) (kept r) (c .in-Continue-judge-alteration .ensures tt) in
     (keeps-at (same-system (r .switch) refl tasks refl) keeps, tt)
 
 pub returns-in-Some : need.returns-in-Some
 returns-in-Some c =
     let r = c .args .self .now in
-    let tasks = replaced r (c .args .task) _ _ _ (c .as-slice .ensures) (c .in-Some .ensures tt) (c .alter .ensures) in
+    let tasks = replaced r (c .args .task) _ _ _ (c .tasks .ensures) (c .in-Some .ensures tt) (c .alter .ensures) in
     (c .in-Continue-judge-alteration .ensures tt, same-system (r .switch) refl tasks refl)
 
 -- a task that stands is found
 pub returns-in-rest : need.returns-in-rest
 returns-in-rest c =
-    let none = missed _ _ (kept (c .args .self .now) .rising) (rw (c .as-slice .ensures) at (c .in-rest .ensures tt)) in
+    let none = missed _ _ (kept (c .args .self .now) .rising) (rw (c .tasks .ensures) at (c .in-rest .ensures tt)) in
     absurd (false≢true (rw none at (c .in-Continue-judge-alteration .ensures tt Absent)))

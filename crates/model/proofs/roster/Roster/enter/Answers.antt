@@ -31,18 +31,18 @@ pub insert-requires : need.insert-requires
 insert-requires c κs =
     let tasks = held (c .args .self .now .tasks) in
     let p = c .args .task .priority in
-    let at : c .rank-at .result ≤ length tasks = rw (c .rank-at .ensures ∙ ap (rank p) (c .as-slice .ensures)) (leading-le-length (before p) tasks) in
+    let at : c .rank-at .result ≤ length tasks = rw (c .rank-at .ensures ∙ ap (rank p) (c .tasks .ensures)) (leading-le-length (before p) tasks) in
     (omega arith, (c .in-Continue-judge-entry .ensures tt TasksFull, at))
 
 pub ghost-self : need.ghost-self
 ghost-self c =
     let r = c .args .self .now in
     let rule = c .in-Continue-judge-entry .ensures tt in
-    let tasks = joined r (c .args .task) _ _ _ (c .as-slice .ensures) (c .rank-at .ensures) (c .insert .ensures) rule in
+    let tasks = joined r (c .args .task) _ _ _ (c .tasks .ensures) (c .rank-at .ensures) (c .insert .ensures) rule in
     (keeps-at (same-system (r .switch) refl tasks refl) (keeps-entered (of r) (c .args .task) (kept r) rule), tt)
 
 pub returns : need.returns
 returns c =
     let r = c .args .self .now in
     let rule = c .in-Continue-judge-entry .ensures tt in
-    (rule, same-system (r .switch) refl (joined r (c .args .task) _ _ _ (c .as-slice .ensures) (c .rank-at .ensures) (c .insert .ensures) rule) refl)
+    (rule, same-system (r .switch) refl (joined r (c .args .task) _ _ _ (c .tasks .ensures) (c .rank-at .ensures) (c .insert .ensures) rule) refl)
