@@ -27,7 +27,7 @@ use Rattle.model.specs.Lists.{Pairwise, first-by}
 use Rattle.model.specs.Lookup.{rank}
 use Rattle.model.specs.Records.{InRange, Above, TaskBounded, Ordered, FloorFits, MoreUrgent, has-priority, before, after, SectionBounded, Within, TakesIn, held-on, Apart, other-priority, other-owner, other-section}
 use Rattle.model.specs.Refusals.{AllKept}
-use Rattle.model.specs.System.{System, system, new-system, Keeps, task-at, section-at, Owned}
+use Rattle.model.specs.System.{System, system, Keeps, task-at, section-at, Owned}
 use Rattle.model.proofs.Lists.{all-both, all-kept-with, length-kept-by-le, pairwise-append, pairwise-push, pairwise-kept-by, pairwise-map, first-by-skip, first-by-none, first-by-passes, all-from-none, first-by-map, first-by-kept}
 use Rattle.model.proofs.Places.{inserted-joins}
 
@@ -48,11 +48,6 @@ keeps-loaded steps switch rule = record {
   owned = tt;
   apart = tt;
 }
-
-pub new-rules : AllKept (LoadRule (new-system .steps) 0)
-new-rules Count = (omega arith, omega arith)
-new-rules Range = (((omega arith, omega arith, omega arith, omega arith), tt), omega arith)
-new-rules Falling = (tt, tt)
 
 pub same-system : (switch : ℕ) {a b : List Step} {t u : List Task} {c d : List Section} → a ≡ b → t ≡ u → c ≡ d → system a switch t c ≡ system b switch u d
 same-system switch steps tasks sections = rw (steps, tasks, sections)

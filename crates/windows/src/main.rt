@@ -4,8 +4,8 @@ mod trouble;
 use model::kinds::Section;
 use model::kinds::Step;
 use model::kinds::Task;
+use model::refusals::RosterRefusalDisplay;
 use model::roster::Roster;
-use std::io;
 use timing::windows::windows;
 use trouble::Trouble;
 use trouble::TroubleFromCall;
@@ -13,42 +13,55 @@ use trouble::TroubleFromIo;
 use trouble::TroubleFromRoster;
 use trouble::TroubleFromSteps;
 
-// Three steps; the first task may be blocked by the second, which holds the same resource.
+const STEPS: [Step; 3] = [
+    Step {
+        clock: 40_000,
+        voltage: 180,
+    },
+    Step {
+        clock: 20_000,
+        voltage: 130,
+    },
+    Step {
+        clock: 10_000,
+        voltage: 100,
+    },
+];
+
+const STROBE: Task = Task {
+    priority: 1,
+    cycles: 40_000,
+    period: 5_000,
+    deadline: 4_000,
+    jitter: 0,
+    floor: None,
+};
+
+const FEED: Task = Task {
+    priority: 2,
+    cycles: 80_000,
+    period: 10_000,
+    deadline: 10_000,
+    jitter: 0,
+    floor: None,
+};
+
+// No roster takes it: its deadline is above its period.
+const LATE: Task = Task {
+    priority: 3,
+    cycles: 1_000,
+    period: 2_000,
+    deadline: 3_000,
+    jitter: 0,
+    floor: None,
+};
+
+// Both tasks hold the same resource, so the less urgent one may block the other.
 fn sample() -> Result<Roster, Trouble> {
-    let steps = [
-        Step {
-            clock: 40_000,
-            voltage: 180,
-        },
-        Step {
-            clock: 20_000,
-            voltage: 130,
-        },
-        Step {
-            clock: 10_000,
-            voltage: 100,
-        },
-    ];
-    let strobe = Task {
-        priority: 1,
-        cycles: 40_000,
-        period: 5_000,
-        deadline: 4_000,
-        jitter: 0,
-        floor: None,
-    };
-    let feed = Task {
-        priority: 2,
-        cycles: 80_000,
-        period: 10_000,
-        deadline: 10_000,
-        jitter: 0,
-        floor: None,
-    };
     let mut roster = Roster::new();
-    roster.load(&steps, 0)?;
-    roster.enter(strobe)?;
-    roster.enter(feed)?;
+    roster.load(&STEPS, 0)?;
+    roster.enter(STROBE)?;
+    roster.enter(FEED)?;
     roster.enter_section(Section {
         owner: 1,
         resource: 0,
@@ -86,15 +99,7 @@ fn run(rt: &LibcRuntime) -> Result<(), Trouble> {
     for number in 0..9u8 {
         show(rt, &roster, number)?;
     }
-    let late = Task {
-        priority: 3,
-        cycles: 1_000,
-        period: 2_000,
-        deadline: 3_000,
-        jitter: 0,
-        floor: None,
-    };
-    if let Err(refusal) = roster.enter(late) {
+    if let Err(refusal) = roster.enter(LATE) {
         let number = refusal.number();
         println!(
             rt,
