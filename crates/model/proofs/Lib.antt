@@ -3,4 +3,5 @@ pub mod Kept
 pub mod Lists
 pub mod Lookups
 pub mod Places
+pub mod Quotients
 pub mod Tables

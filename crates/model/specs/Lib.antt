@@ -4,6 +4,7 @@ pub mod Held
 pub mod Lists
 pub mod Lookup
 pub mod Of
+pub mod Quotient
 pub mod Records
 pub mod Refusals
 pub mod Rewrite

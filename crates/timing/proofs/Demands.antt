@@ -10,9 +10,9 @@ use Rattle.std.proofs.shelf.Elements.{all-weaker}
 use Rattle.std.proofs.shelf.Sums.{sumBy-cons, sumBy-le}
 use Rattle.timing.specs.declared.demand.Load.{Load}
 use Rattle.timing.specs.Bounds.{max-own, max-cost, max-period, max-loads, scale}
-use Rattle.timing.specs.Quotient.{up}
+use Rattle.model.specs.Quotient.{up}
 use Rattle.timing.specs.Demand.{interference, share, demand, Bounded, Under}
-use Rattle.timing.proofs.Quotients.{up-covers, up-close, up-least, up-rises}
+use Rattle.model.proofs.Quotients.{up-covers, up-close, up-least, up-rises}
 
 -- what holds of the terms, some times over, holds of their sums
 sums-le : {X : Type 0} (f g : X → ℕ) (a b : ℕ) (xs : List X) → All (λ x. f x * a ≤ g x * b) xs → sumBy f xs * a ≤ sumBy g xs * b

@@ -5,5 +5,4 @@ pub mod Described
 pub mod Judgements
 pub mod Limits
 pub mod Loads
-pub mod Quotients
 pub mod Systems

@@ -13,9 +13,9 @@ use Rattle.model.specs.Bounds.{min-clock, max-cycles}
 use Rattle.model.specs.Records.{InRange}
 use Rattle.model.specs.System.{System, Keeps}
 use Rattle.timing.specs.Bounds.{max-time}
-use Rattle.timing.specs.Quotient.{up}
+use Rattle.model.specs.Quotient.{up}
 use Rattle.timing.specs.Times.{Covers, InTable, clock, time}
-use Rattle.timing.proofs.Quotients.{up-covers, up-least}
+use Rattle.model.proofs.Quotients.{up-covers, up-least}
 
 pub getD-zipped : {X Y : Type 0} (xs : List X) (ys : List Y) (i : ℕ) (d : X) (e : Y) → i < length xs → i < length ys → getD (zipped xs ys) i (d, e) ≡ (getD xs i d, getD ys i e)
 getD-zipped [] ys i d e low high = absurd (omega arith)

@@ -1,7 +1,7 @@
 -- What every sum of this crate stays below, as the bounds of a roster give it.
 use Prim.Native.Nat.{ℕ, _+_, _-_, _*_, _^_}
 use Rattle.model.specs.Bounds as model
-use Rattle.timing.specs.Quotient.{up}
+use Rattle.model.specs.Quotient.{up}
 
 -- the longest that a task or a section runs: all cycles at the slowest clock
 abbrev pub max-time : ℕ

@@ -7,7 +7,7 @@ use Rattle.std.specs.declared.option.Option.{Option}
 use Rattle.std.specs.declared.option.Option.the-variants.{Some}
 use Rattle.timing.specs.declared.demand.Load.{Load}
 use Rattle.timing.specs.Bounds.{max-cost, max-period, scale}
-use Rattle.timing.specs.Quotient.{up}
+use Rattle.model.specs.Quotient.{up}
 
 -- what a more urgent task asks for within w: one cost for each of its releases
 abbrev pub interference : ℕ → Load → ℕ

@@ -1,6 +1,5 @@
 pub mod Analysis
 pub mod Bounds
 pub mod Demand
-pub mod Quotient
 pub mod Times
 pub mod Windows

@@ -15,7 +15,7 @@ use Rattle.model.specs.System.{System}
 use Rattle.timing.specs.declared.demand.Load.{Load}
 use Rattle.timing.specs.declared.holds.Hold.{Hold}
 use Rattle.timing.specs.Bounds.{no-ceiling}
-use Rattle.timing.specs.Quotient.{up}
+use Rattle.model.specs.Quotient.{up}
 
 -- ---- sets
 

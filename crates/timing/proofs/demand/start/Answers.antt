@@ -1,7 +1,7 @@
 use Prim.Native.Nat.{_*_}
 use native.Mathlib.Omega.{arith}
 use Rattle.timing.specs.Bounds.{scale}
-use Rattle.timing.proofs.Quotients.{up-within}
+use Rattle.model.proofs.Quotients.{up-within}
 use Rattle.timing.proofs.Demands.{demand-shares, under-start}
 use Rattle.timing.proofs.demand.start.Needs as need
 

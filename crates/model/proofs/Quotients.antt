@@ -2,7 +2,7 @@
 use Prim.Native.Nat.{ℕ, _+_, _*_, _/_, _≤_, _<_}
 use native.Mathlib.Nat.{add-mul, mod-lt, div-add-mod', lt-of-mul-lt-mul-right, le-mul-of-pos-right}
 use native.Mathlib.Omega.{arith}
-use Rattle.timing.specs.Quotient.{up}
+use Rattle.model.specs.Quotient.{up}
 
 pub up-covers : (a b : ℕ) → 0 < b → a ≤ up a b * b
 up-covers a b pos = grind (arith, div-add-mod' a b, mod-lt a pos, add-mul (a / b) 1 b)
