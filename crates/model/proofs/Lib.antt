@@ -1,3 +1,4 @@
+pub mod Growing
 pub mod Keeping
 pub mod Kept
 pub mod Lists

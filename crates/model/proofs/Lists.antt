@@ -23,6 +23,10 @@ pub all-both : {X : Type 0} (P Q S : X → Type 0) → ((x : X) → P x → Q x 
 all-both P Q S f [] p q = tt
 all-both P Q S f (x ∷ xs) p q = (f x (p .0) (q .0), all-both P Q S f xs (p .1) (q .1))
 
+pub map-same : {X Y : Type 0} (P : X → Type 0) (f g : X → Y) → ((x : X) → P x → f x ≡ g x) → (xs : List X) → All P xs → map f xs ≡ map g xs
+map-same P f g same [] h = refl
+map-same P f g same (x ∷ xs) h = rw (same x (h .0), map-same P f g same xs (h .1))
+
 module _ {X : Type 0} (keep : X → Bool) where
   pub all-kept-with : (P Q : X → Type 0) → ((x : X) → keep x ≡ true → P x → Q x) → (xs : List X) → All P xs → All Q (kept-by keep xs)
   all-kept-with P Q f [] h = tt

@@ -1,5 +1,7 @@
 pub mod Bounds
 pub mod Calls
+pub mod Capped
+pub mod Growth
 pub mod Held
 pub mod Lists
 pub mod Lookup

@@ -10,6 +10,7 @@ use crate::kinds::Task;
 use crate::table::Table;
 
 pub mod calls;
+mod growth;
 mod judges;
 
 #[derive(Copy)]

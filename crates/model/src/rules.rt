@@ -23,7 +23,7 @@ pub const MAX_SWITCH: u32 = 1_000_000;
 
 const MAX_PERIOD: u32 = 100_000_000;
 
-const MAX_CYCLES: u32 = 100_000_000;
+pub const MAX_CYCLES: u32 = 100_000_000;
 
 pub const MAX_PRIORITY: u32 = 255;
 

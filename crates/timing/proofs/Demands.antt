@@ -1,17 +1,18 @@
 -- Demand rises with the window, no sum of it wraps, and it is at least what the shares say.
-use mathlib.Core.Path.{_≡_}
 use mathlib.Core.List.{List, [], _∷_}
-use Prim.Native.Nat.{ℕ, _+_, _*_, _^_, _≤_, _<_}
+use mathlib.Core.Logic.{⊎-elim}
+use Prim.Native.Nat.{ℕ, zero, suc, _+_, _*_, _^_, _≤_, _<_}
 use native.Mathlib.Nat.{add-mul, mul-add, mul-assoc, mul-left-comm, mul-le-mul, mul-le-mul-left, mul-le-mul-right, lt-of-mul-lt-mul-right, div-le-self, div-mul-le-self}
 use native.Mathlib.Omega.{arith}
 use lib.ListN.{length}
 use Rattle.std.specs.shelf.Lists.{sumBy, All}
 use Rattle.std.proofs.shelf.Elements.{all-weaker}
 use Rattle.std.proofs.shelf.Sums.{sumBy-cons, sumBy-le}
+use Rattle.std.proofs.shelf.Tests.{cases-lt}
 use Rattle.timing.specs.declared.demand.Load.{Load}
 use Rattle.timing.specs.Bounds.{max-own, max-cost, max-period, max-loads, scale}
 use Rattle.model.specs.Quotient.{up}
-use Rattle.timing.specs.Demand.{interference, share, demand, Bounded, Under}
+use Rattle.timing.specs.Demand.{interference, share, demand, Bounded, Under, Window}
 use Rattle.model.proofs.Quotients.{up-covers, up-close, up-least, up-rises}
 
 -- what holds of the terms, some times over, holds of their sums
@@ -84,3 +85,17 @@ under-next asked w rises under = record {
   rising = rises w (asked w) (under .rising);
   below = λ v pos e. omega (arith, rises w v (under .below v pos e));
 }
+
+-- from a w up to v the iteration comes to a window, where what is asked for within v fits it
+settling : (asked : ℕ → ℕ) (v : ℕ) → ((u w : ℕ) → u ≤ w → asked u ≤ asked w) → asked v ≤ v → (n w : ℕ) → v ≤ w + n → w ≤ v → Under asked w → (u : ℕ) × (u ≤ v) × Window asked u
+settling asked v rises fits zero w near low under = (w, low, record { positive = under .positive; settles = omega (arith, rises w v low); least = under .below })
+settling asked v rises fits (suc n) w near low under =
+    ⊎-elim
+    (λ lt. settling asked v rises fits n (asked w) (omega arith) (omega (arith, rises w v low)) (under-next asked w rises under))
+    (λ ge. (w, low, record { positive = under .positive; settles = omega arith; least = under .below }))
+    (cases-lt w (asked w))
+
+-- where what is asked for within v fits it, there is a window no longer than v
+pub window-within : (asked : ℕ → ℕ) (v : ℕ) → ((u w : ℕ) → u ≤ w → asked u ≤ asked w) → 1 ≤ asked 1 → 1 ≤ v → asked v ≤ v → (w : ℕ) × (w ≤ v) × Window asked w
+window-within asked v rises some pos fits =
+    settling asked v rises fits v 1 (omega arith) pos (record { positive = omega arith; rising = some; below = λ u p e. p })

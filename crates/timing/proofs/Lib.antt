@@ -2,6 +2,7 @@ pub mod Chosen
 pub mod Demands
 pub mod Blockers
 pub mod Described
+pub mod Faster
 pub mod Judgements
 pub mod Limits
 pub mod Loads

@@ -6,15 +6,13 @@ use native.Mathlib.Nat.{lt-of-mul-lt-mul-right}
 use native.Mathlib.Omega.{arith}
 use lib.ListN.{length, getD, take, set as put}
 use Rattle.std.specs.Finite.{zipped}
-use Rattle.std.specs.shelf.Lists.{All}
 use Rattle.std.proofs.shelf.Elements.{all-getD}
-use Rattle.std.proofs.shelf.Lists.{length-take-le, getD-take, map-more, take-more-set}
+use Rattle.std.proofs.shelf.Lists.{length-take-le, getD-take, map-more, take-all, take-more-set}
 use Rattle.model.specs.Bounds.{min-clock, max-cycles}
 use Rattle.model.specs.Records.{InRange}
 use Rattle.model.specs.System.{System, Keeps}
 use Rattle.timing.specs.Bounds.{max-time}
-use Rattle.model.specs.Quotient.{up}
-use Rattle.timing.specs.Times.{Covers, InTable, clock, time}
+use Rattle.timing.specs.Times.{IsSet, Covers, InTable, clock, time}
 use Rattle.model.proofs.Quotients.{up-covers, up-least}
 
 pub getD-zipped : {X Y : Type 0} (xs : List X) (ys : List Y) (i : ℕ) (d : X) (e : Y) → i < length xs → i < length ys → getD (zipped xs ys) i (d, e) ≡ (getD xs i d, getD ys i e)
@@ -38,6 +36,13 @@ pub time-some : (cycles khz : ℕ) → 1 ≤ cycles → min-clock ≤ khz → 1 
 time-some cycles khz some fast =
     let pos : 0 * khz < time cycles khz * khz = omega (arith, up-covers (cycles * 1000) khz (omega arith)) in
     lt-of-mul-lt-mul-right khz pos
+
+-- a list of the tasks' length is a set exactly where it is in the table
+pub isset-from : (s : System) (set : List ℕ) → length set ≡ length (s .tasks) → InTable s set → IsSet s set
+isset-from s set whole named = record { whole = whole; named = rw (take-all (length (s .tasks)) set (omega arith)) at named }
+
+pub table-from : (s : System) (set : List ℕ) → IsSet s set → InTable s set
+table-from s set isset = rw (take-all (length (s .tasks)) set (omega arith)) (isset .named)
 
 module _ (s : System) (set : List ℕ) (long : Covers s set) (named : InTable s set) where
   pub step-named : (i : ℕ) → i < length (s .tasks) → getD set i 0 < length (s .steps)

@@ -1,4 +1,5 @@
 -- What a set of steps makes of a system: times, loads, ceilings and holds.
+use mathlib.Core.Path.{_≡_}
 use mathlib.Core.Bool.{Bool, _&&_}
 use mathlib.Core.List.{List, map}
 use Prim.Native.Nat.{ℕ, _+_, _*_, _<_, _≤_, min, max}
@@ -6,7 +7,7 @@ use lib.Dec.{eqb, ltb, leb}
 use lib.ListN.{length, getD, take}
 use Rattle.std.specs.Finite.{zipped}
 use Rattle.std.specs.Iters.{folded}
-use Rattle.std.specs.shelf.Lists.{All, kept-by}
+use Rattle.std.specs.shelf.Lists.{All, Each, kept-by}
 use Rattle.model.specs.declared.kinds.Step.{Step}
 use Rattle.model.specs.declared.kinds.Task.{Task}
 use Rattle.model.specs.declared.kinds.Section.{Section}
@@ -19,13 +20,25 @@ use Rattle.model.specs.Quotient.{up}
 
 -- ---- sets
 
--- A set names one step for each task, in priority order. A list stands for a set by its first places:
--- it is long enough, and each of these is a step of the table.
+-- A set names one step for each task, in priority order.
+pub record IsSet (s : System) (set : List ℕ) : Type 0 where
+  pub whole : length set ≡ length (s .tasks)
+  pub named : All (λ g. g < length (s .steps)) set
+
+-- the set that a list stands for: its first places, one for each task
+abbrev pub front : System → List ℕ → List ℕ
+front s list = take (length (s .tasks)) list
+
+-- the list is long enough, and each of these places is a step of the table
 abbrev pub Covers : System → List ℕ → Type 0
 Covers s set = length (s .tasks) ≤ length set
 
 abbrev pub InTable : System → List ℕ → Type 0
-InTable s set = All (λ g. g < length (s .steps)) (take (length (s .tasks)) set)
+InTable s set = All (λ g. g < length (s .steps)) (front s set)
+
+-- one set is at least as fast as another at each task: a smaller number is a faster step
+abbrev pub Faster : List ℕ → List ℕ → Type 0
+Faster fast slow = Each _≤_ fast slow
 
 -- ---- times
 

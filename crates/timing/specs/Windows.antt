@@ -11,7 +11,7 @@ use Rattle.model.specs.Rewrite.{blank-task}
 use Rattle.model.specs.System.{System}
 use Rattle.timing.specs.declared.demand.Load.{Load}
 use Rattle.timing.specs.Demand.{demand, Meets}
-use Rattle.timing.specs.Times.{Covers, InTable, loads, holds, blocking}
+use Rattle.timing.specs.Times.{IsSet, Covers, InTable, loads, holds, blocking}
 
 -- the task at a place in priority order
 abbrev pub task : System → ℕ → Task
@@ -32,7 +32,12 @@ demand-at s set i w = demand (own s set i) (take i (loads s set)) w
 abbrev pub MeetsAt : System → List ℕ → ℕ → ℕ → Type 0
 MeetsAt s set i w = Meets (demand-at s set i) (task s i .jitter) (task s i .deadline) w
 
--- ---- the call
+-- every task meets its deadline under a set of the system
+pub record Responds (s : System) (set : List ℕ) : Type 0 where
+  pub isset : IsSet s set
+  pub meets : (i : ℕ) → i < length (s .tasks) → (w : ℕ) × MeetsAt s set i w
+
+-- ---- the windows call
 
 -- the rule behind each refusal: both lists have a place for each task, and the set names steps of the table
 abbrev pub WindowsRule : System → List ℕ → List ℕ → CallRefusal → Type 0

@@ -36,7 +36,7 @@ const FREE: Hold = Hold {
 };
 
 // The time of so many cycles at a step.
-fn time_at(roster: &Roster, cycles: u32, step: u8) -> u64
+pub(crate) fn time_at(roster: &Roster, cycles: u32, step: u8) -> u64
     requires { ⌜ step < length (of (now roster) .steps) ⌝ }
     ensures { λ r. ⌜ r ≡ time cycles (clock (of (now (roster .entry))) step) ⌝ }
 {

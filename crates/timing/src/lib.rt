@@ -2,4 +2,5 @@
 mod analysis;
 mod demand;
 mod holds;
+pub mod sets;
 pub mod windows;

@@ -1,29 +1,16 @@
 // The windows of a roster's tasks under a set of steps.
 ghost use mathlib.Core.Path.{_≡_};
-ghost use Prim.Native.Nat.{_≤_};
-ghost use lib.ListN.{length};
+ghost use lib.ListN.{length, take};
 ghost use Rattle.std.specs.Orderings.{Decides};
 ghost use Rattle.std.specs.Results.{Cases};
 ghost use Rattle.model.specs.Of.{of};
 ghost use Rattle.model.specs.Refusals.{call-number, AllKept, First, Verdict};
-ghost use Rattle.timing.specs.Times.{Covers, InTable};
-ghost use Rattle.timing.specs.Windows.{WindowsRule, Filled};
+ghost use Rattle.timing.specs.Times.{front};
+ghost use Rattle.timing.specs.Windows.{WindowsRule, Filled, Responds};
 use crate::analysis::Analysis;
+use crate::sets::in_table;
 use model::refusals::CallRefusal;
 use model::roster::Roster;
-
-// Whether the first places of a list are steps of the table.
-fn in_table(roster: &Roster, set: &[u8]) -> bool
-    ensures { λ r. ⌜ Decides r (InTable (of (now (roster .entry))) (now (set .entry))) ⌝ }
-{
-    let steps = roster.steps().len();
-    for step in set.iter().take(roster.tasks().len()) {
-        if *step as usize >= steps {
-            return false;
-        }
-    }
-    true
-}
 
 fn judge(roster: &Roster, set: &[u8], out: &[u32]) -> Result<(), CallRefusal>
     ensures { λ r. ⌜ Verdict call-number (WindowsRule (of (now (roster .entry))) (now (set .entry)) (now (out .entry))) r ⌝ }
@@ -50,4 +37,25 @@ pub fn windows(roster: &Roster, set: &[u8], out: &mut [u32]) -> Result<(), CallR
         out[i] = analysis.window(roster, i).unwrap_or(0) as u32;
     }
     Ok(())
+}
+
+// Whether a list stands for a set under which every task meets its deadline.
+pub fn all_meet(roster: &Roster, set: &[u8]) -> bool
+    ensures { λ r. ⌜ Decides r (Responds (of (now (roster .entry))) (take (length (of (now (roster .entry)) .tasks)) (now (set .entry)))) ⌝ }
+{
+    let tasks = roster.tasks().len();
+    if set.len() < tasks {
+        return false;
+    }
+    let set = &set[0..tasks];
+    if !in_table(roster, set) {
+        return false;
+    }
+    let analysis = Analysis::new(roster, set);
+    for i in 0..tasks {
+        if analysis.window(roster, i).is_none() {
+            return false;
+        }
+    }
+    true
 }

@@ -1,4 +1,4 @@
-// Prints the windows of a sample of two tasks under each of its nine sets, and then a refusal.
+// Prints what the library says of a sample of two tasks under each of its nine sets, and then a refusal.
 mod trouble;
 
 use model::kinds::Section;
@@ -6,6 +6,22 @@ use model::kinds::Step;
 use model::kinds::Task;
 use model::refusals::RosterRefusalDisplay;
 use model::roster::Roster;
+use schedulability::density::Density;
+use schedulability::density::DensityTest;
+use schedulability::margin::Margin;
+use schedulability::margin::MarginTest;
+use schedulability::pair::Pair;
+use schedulability::pair::PairTest;
+use schedulability::response::Response;
+use schedulability::response::ResponseTest;
+use schedulability::test::Test;
+use tariffs::charge::charge;
+use tariffs::energy::Energy;
+use tariffs::energy::EnergyTariff;
+use tariffs::paired::Paired;
+use tariffs::paired::PairedTariff;
+use tariffs::peak::Peak;
+use tariffs::peak::PeakTariff;
 use timing::windows::windows;
 use trouble::Trouble;
 use trouble::TroubleFromCall;
@@ -75,11 +91,19 @@ fn sample() -> Result<Roster, Trouble> {
     Ok(roster)
 }
 
-fn show(rt: &LibcRuntime, roster: &Roster, number: u8) -> Result<(), Trouble> {
-    let first = number / 3;
-    let second = number % 3;
+fn word(yes: bool) -> &'static str {
+    if yes { "yes" } else { "no" }
+}
+
+fn show_windows(
+    rt: &LibcRuntime,
+    roster: &Roster,
+    number: u8,
+    set: [u8; 2],
+) -> Result<(), Trouble> {
+    let [first, second] = set;
     let mut found = [0; 2];
-    windows(roster, &[first, second], &mut found)?;
+    windows(roster, &set, &mut found)?;
     let [w, v] = found;
     let verdict = if w > 0 && v > 0 {
         "all deadlines are met"
@@ -91,6 +115,48 @@ fn show(rt: &LibcRuntime, roster: &Roster, number: u8) -> Result<(), Trouble> {
         "set {number}: steps {first} {second}, windows {w} {v}, {verdict}"
     )?;
     Ok(())
+}
+
+fn show_tests(rt: &LibcRuntime, roster: &Roster, set: [u8; 2]) -> Result<(), Trouble> {
+    let margin = Margin {
+        percent: 10,
+        below: Response,
+    };
+    let both = Pair {
+        first: Response,
+        second: Density,
+    };
+    let response = word(Response.ask(roster, &set));
+    let density = word(Density.ask(roster, &set));
+    let spare = word(margin.ask(roster, &set));
+    let pair = word(both.ask(roster, &set));
+    println!(
+        rt,
+        "  response {response}, density {density}, response with 10 percent {spare}, both {pair}"
+    )?;
+    Ok(())
+}
+
+fn show_charges(rt: &LibcRuntime, roster: &Roster, set: [u8; 2]) -> Result<(), Trouble> {
+    let energy: Energy = charge(roster, &set);
+    let peak: Peak = charge(roster, &set);
+    let paired: Paired<Energy, Peak> = charge(roster, &set);
+    let amount = energy.amount;
+    let voltage = peak.voltage;
+    let first = paired.first.amount;
+    let second = paired.second.voltage;
+    println!(
+        rt,
+        "  energy {amount}, peak {voltage}, energy then peak {first} {second}"
+    )?;
+    Ok(())
+}
+
+fn show(rt: &LibcRuntime, roster: &Roster, number: u8) -> Result<(), Trouble> {
+    let set = [number / 3, number % 3];
+    show_windows(rt, roster, number, set)?;
+    show_tests(rt, roster, set)?;
+    show_charges(rt, roster, set)
 }
 
 fn run(rt: &LibcRuntime) -> Result<(), Trouble> {

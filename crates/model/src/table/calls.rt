@@ -1,6 +1,6 @@
 ghost use mathlib.Core.Path.{_≡_};
 ghost use mathlib.Core.Bool.{Bool};
-ghost use mathlib.Core.List.{[], _∷_, _++_};
+ghost use mathlib.Core.List.{[], _∷_, _++_, map};
 ghost use Prim.Native.Nat.{_<_, _≤_};
 ghost use lib.ListN.{length, getD, set};
 ghost use Rattle.std.specs.shelf.Lists.{inserted, kept-by};
@@ -15,6 +15,14 @@ pub trait Choice<T> {
 
     fn chooses(&self, item: &T) -> bool
         ensures { λ r. ⌜ r ≡ chosen (now (self .entry)) (now (item .entry)) ⌝ };
+}
+
+// What is done to an item, as a value.
+pub trait Change<T> {
+    ghost changed: { Self → T → T };
+
+    fn change(&self, item: &mut T)
+        ensures { λ _. ⌜ now (item .exit) ≡ changed (now (self .entry)) (now (item .entry)) ⌝ };
 }
 
 impl<T: Copy, const N: usize> Table<T, N> {
@@ -72,6 +80,17 @@ impl<T: Copy, const N: usize> Table<T, N> {
             }
         }
         self.len = kept;
+    }
+
+    // Changes each item in its place.
+    pub(crate) fn apply<C: Change<T>>(&mut self, change: &C)
+        ensures { λ _. ⌜ held (now (self .exit)) ≡ map (C·Change .changed (now (change .entry))) (held (now (self .entry))) ⌝ }
+    {
+        for i in 0..self.len {
+            let mut item = self.items[i];
+            change.change(&mut item);
+            self.items[i] = item;
+        }
     }
 
     // Holds the items of `source`, and nothing else.

@@ -6,7 +6,7 @@ use Rattle.std.specs.shelf.Lists.{All}
 use Rattle.model.specs.Of.{of}
 use Rattle.model.specs.System.{System}
 use Rattle.timing.specs.Times.{InTable}
-use Rattle.timing.proofs.windows.in_table.Given as given
+use Rattle.timing.proofs.sets.in_table.Given as given
 
 -- the first n of these are steps of the table exactly when the set is
 abbrev pub Stands : System → List ℕ → ℕ → List ℕ → Type 0

@@ -8,7 +8,7 @@ use lib.ListN.{length, take}
 use Rattle.std.proofs.shelf.Lists.{nil-from-length}
 use Rattle.std.proofs.shelf.Tests.{false≢true}
 use Rattle.model.specs.Of.{of}
-use Rattle.timing.proofs.windows.in_table.Needs as need
+use Rattle.timing.proofs.sets.in_table.Needs as need
 
 -- a turn takes one of those that are left
 taken : {g n : ℕ} {left rest : List ℕ} (m : ℕ) → (left ≡ g ∷ rest) × (m + 1 ≡ n) → take n left ≡ g ∷ take m rest

@@ -1,0 +1,3 @@
+pub mod Amounts
+pub mod Charges
+pub mod Prices
