@@ -1,5 +1,7 @@
 // Examples at the limits of the rules, run against the library. The crate has nothing but its tests.
 #[cfg(test)]
+mod charges;
+#[cfg(test)]
 mod rosters;
 #[cfg(test)]
 mod sample;
@@ -7,3 +9,5 @@ mod sample;
 mod sections;
 #[cfg(test)]
 mod stretches;
+#[cfg(test)]
+mod verdicts;

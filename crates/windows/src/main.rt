@@ -159,12 +159,19 @@ fn show(rt: &LibcRuntime, roster: &Roster, number: u8) -> Result<(), Trouble> {
     show_charges(rt, roster, set)
 }
 
-fn run(rt: &LibcRuntime) -> Result<(), Trouble> {
-    let mut roster = sample()?;
-    println!(rt, "a window of 0 says that the task misses its deadline")?;
+// The density test passes no roster with sections, so it is asked again without them.
+fn without_sections(rt: &LibcRuntime, roster: &mut Roster) -> Result<(), Trouble> {
+    roster.strike_section(1, 0)?;
+    roster.strike_section(2, 0)?;
+    println!(rt, "without its sections")?;
     for number in 0..9u8 {
-        show(rt, &roster, number)?;
+        println!(rt, "set {number}")?;
+        show_tests(rt, roster, [number / 3, number % 3])?;
     }
+    Ok(())
+}
+
+fn bad_entry(rt: &LibcRuntime, roster: &mut Roster) -> Result<(), Trouble> {
     if let Err(refusal) = roster.enter(LATE) {
         let number = refusal.number();
         println!(
@@ -173,6 +180,16 @@ fn run(rt: &LibcRuntime) -> Result<(), Trouble> {
         )?;
     }
     Ok(())
+}
+
+fn run(rt: &LibcRuntime) -> Result<(), Trouble> {
+    let mut roster = sample()?;
+    println!(rt, "a window of 0 says that the task misses its deadline")?;
+    for number in 0..9u8 {
+        show(rt, &roster, number)?;
+    }
+    without_sections(rt, &mut roster)?;
+    bad_entry(rt, &mut roster)
 }
 
 fn main(rt: LibcRuntime) -> Result<(), Trouble> {
