@@ -29,81 +29,89 @@ fn step_tables() -> Result<(), Fail> {
     check_eq(loads(1_999_999, 501, 0), 2)
 }
 
+fn entered(task: Task) -> u8 {
+    answer(small().enter(task))
+}
+
 #[test]
 fn bounds_of_a_task() -> Result<(), Fail> {
-    let mut roster = small();
+    check_eq(entered(plain(255)), 0)?;
+    check_eq(entered(plain(256)), 4)?;
     check_eq(
-        answer(roster.enter(Task {
-            priority: 256,
-            ..plain(0)
-        })),
-        4,
-    )?;
-    check_eq(
-        answer(roster.enter(Task {
+        entered(Task {
             cycles: 0,
             ..plain(0)
-        })),
+        }),
         4,
     )?;
     check_eq(
-        answer(roster.enter(Task {
+        entered(Task {
+            cycles: 100_000_000,
+            ..plain(0)
+        }),
+        0,
+    )?;
+    check_eq(
+        entered(Task {
             cycles: 100_000_001,
             ..plain(0)
-        })),
+        }),
         4,
     )?;
     check_eq(
-        answer(roster.enter(Task {
+        entered(Task {
             period: 0,
             ..plain(0)
-        })),
+        }),
         4,
     )?;
     check_eq(
-        answer(roster.enter(Task {
+        entered(Task {
             period: 100_000_001,
             ..plain(0)
-        })),
+        }),
         4,
     )?;
     check_eq(
-        answer(roster.enter(Task {
+        entered(Task {
             deadline: 0,
             ..plain(0)
-        })),
+        }),
         4,
-    )?;
+    )
+}
+
+#[test]
+fn numbers_that_are_compared() -> Result<(), Fail> {
     check_eq(
-        answer(roster.enter(Task {
+        entered(Task {
             deadline: 999_999_999,
             ..plain(0)
-        })),
+        }),
         5,
     )?;
     check_eq(
-        answer(roster.enter(Task {
+        entered(Task {
             jitter: 501,
             ..plain(0)
-        })),
+        }),
         5,
     )?;
     check_eq(
-        answer(roster.enter(Task {
+        entered(Task {
             floor: Some(2),
             ..plain(0)
-        })),
+        }),
         6,
     )?;
-    check_eq(answer(roster.enter(plain(3))), 7)?;
     check_eq(
-        answer(roster.enter(Task {
+        entered(Task {
             floor: Some(2),
             ..plain(3)
-        })),
+        }),
         6,
     )?;
-    check_eq(roster.tasks().len(), 2)
+    check_eq(entered(plain(3)), 7)
 }
 
 #[test]

@@ -7,7 +7,7 @@ use model::refusals::RosterRefusal;
 use model::refusals::StepsRefusal;
 use model::roster::Roster;
 
-pub const STEPS: [Step; 2] = [
+pub(crate) const STEPS: [Step; 2] = [
     Step {
         clock: 2_000,
         voltage: 20,
@@ -19,7 +19,7 @@ pub const STEPS: [Step; 2] = [
 ];
 
 // A task of a priority that breaks no rule.
-pub fn plain(priority: u32) -> Task {
+pub(crate) fn plain(priority: u32) -> Task {
     Task {
         priority,
         cycles: 10,
@@ -30,7 +30,7 @@ pub fn plain(priority: u32) -> Task {
     }
 }
 
-pub fn section(owner: u32, resource: u32, cycles: u32) -> Section {
+pub(crate) fn section(owner: u32, resource: u32, cycles: u32) -> Section {
     Section {
         owner,
         resource,
@@ -39,7 +39,7 @@ pub fn section(owner: u32, resource: u32, cycles: u32) -> Section {
 }
 
 // Two steps, and the tasks 3 and 7.
-pub fn small() -> Roster {
+pub(crate) fn small() -> Roster {
     let mut roster = Roster::new();
     let _ = roster.load(&STEPS, 0);
     let _ = roster.enter(plain(7));
@@ -47,21 +47,21 @@ pub fn small() -> Roster {
     roster
 }
 
-pub fn steps_answer(answer: Result<(), StepsRefusal>) -> u8 {
+pub(crate) fn steps_answer(answer: Result<(), StepsRefusal>) -> u8 {
     match answer {
         Ok(()) => 0,
         Err(refusal) => refusal.number(),
     }
 }
 
-pub fn answer(answer: Result<(), RosterRefusal>) -> u8 {
+pub(crate) fn answer(answer: Result<(), RosterRefusal>) -> u8 {
     match answer {
         Ok(()) => 0,
         Err(refusal) => refusal.number(),
     }
 }
 
-pub fn call_answer(answer: Result<(), CallRefusal>) -> u8 {
+pub(crate) fn call_answer(answer: Result<(), CallRefusal>) -> u8 {
     match answer {
         Ok(()) => 0,
         Err(refusal) => refusal.number(),
