@@ -1,15 +1,21 @@
 -- A grown system keeps the rules, and where it fits its bounds the cap does not show.
 use mathlib.Core.Path.{_≡_, refl, _∙_}
+use mathlib.Core.Bool.{Bool, true}
 use mathlib.Core.List.{List, map}
 use Prim.Native.Nat.{ℕ, _+_, _*_, _≤_}
 use native.Mathlib.Nat.{mul-add, mul-le-mul-right}
 use native.Mathlib.Omega.{arith}
+use lib.Dec.{leb}
 use lib.ListN.{length}
 use Rattle.std.specs.Options.{Cases, mapped}
+use Rattle.std.specs.Orderings.{Decides}
 use Rattle.std.specs.declared.option.Option.{Option}
 use Rattle.std.specs.declared.option.Option.the-variants.{None, Some}
+use Rattle.std.specs.shelf.Lists.{All}
 use Rattle.std.proofs.shelf.Elements.{all-map, all-weaker}
 use Rattle.std.proofs.shelf.Lists.{length-map}
+use Rattle.std.proofs.shelf.Tests.{le-leb, leb-true}
+use Rattle.std.proofs.shelf.Ways.{decides-like}
 use Rattle.model.specs.declared.kinds.Task.{Task}
 use Rattle.model.specs.declared.kinds.Section.{Section}
 use Rattle.model.specs.Bounds.{max-cycles}
@@ -70,3 +76,11 @@ capped-grown m s g tasks sections =
     same-system (s .switch) refl
     (tasks ∙ map-same _ (capped-task m) (grown-task m) (λ t fits. rw (capped-is m (t .cycles) fits)) (s .tasks) (g .tasks))
     (sections ∙ map-same _ (capped-section m) (grown-section m) (λ c fits. rw (capped-is m (c .cycles) fits)) (s .sections) (g .sections))
+
+-- a test of the bound at each item decides the rule
+pub decides-bound : {X : Type 0} (m : ℕ) (cycles : X → ℕ) (xs : List X) (r : Bool) → Decides r (All (λ x. leb (grown-cycles m (cycles x)) max-cycles ≡ true) xs) → Decides r (All (λ x. grown-cycles m (cycles x) ≤ max-cycles) xs)
+decides-bound m cycles xs r h =
+    decides-like r
+    (all-weaker _ _ (λ x e. leb-true (grown-cycles m (cycles x)) max-cycles e) xs)
+    (all-weaker _ _ (λ x le. le-leb (grown-cycles m (cycles x)) max-cycles le) xs)
+    h

@@ -1,9 +1,8 @@
 // A copy of a roster in which every number of cycles has a margin.
 ghost use mathlib.Core.Path.{_≡_};
-ghost use Prim.Native.Nat.{_≤_};
+ghost use lib.Dec.{leb};
 ghost use Rattle.std.specs.Options.{Cases};
 ghost use Rattle.std.specs.Orderings.{Decides};
-ghost use Rattle.std.specs.shelf.Lists.{All};
 ghost use Rattle.model.specs.Bounds.{max-cycles};
 ghost use Rattle.model.specs.Capped.{capped-cycles, capped-task, capped-section};
 ghost use Rattle.model.specs.Growth.{margin, grown-cycles, grown, Grows};
@@ -13,6 +12,8 @@ use crate::kinds::Section;
 use crate::kinds::Task;
 use crate::rules::MAX_CYCLES;
 use crate::table::calls::Change;
+use crate::table::calls::Choice;
+use crate::table::calls::every;
 
 // A margin in percent; one above this is taken as this.
 const MAX_MARGIN: u32 = 100;
@@ -27,32 +28,30 @@ fn grown_cycles(cycles: u32, percent: u32) -> u32
 }
 
 // Whether the cycles stay within their bound.
-fn fits(cycles: u32, percent: u32) -> bool
-    ensures { λ r. ⌜ Decides r (grown-cycles (margin percent) cycles ≤ max-cycles) ⌝ }
+fn within_bound(cycles: u32, percent: u32) -> bool
+    ensures { λ r. ⌜ r ≡ leb (grown-cycles (margin percent) cycles) max-cycles ⌝ }
 {
     grown_cycles(cycles, percent) <= MAX_CYCLES
 }
 
-fn tasks_fit(tasks: &[Task], percent: u32) -> bool
-    ensures { λ r. ⌜ Decides r (All (λ t. grown-cycles (margin percent) (t .cycles) ≤ max-cycles) (now (tasks .entry))) ⌝ }
-{
-    for task in tasks {
-        if !fits(task.cycles, percent) {
-            return false;
-        }
+// Cycles that stay within their bound under a margin in percent.
+#[derive(Clone, Copy)]
+struct Fits(u32);
+
+impl Choice<Task> for Fits as TaskFits {
+    ghost chosen = { λ s t. leb (grown-cycles (margin (s .0)) (t .cycles)) max-cycles };
+
+    fn chooses(&self, task: &Task) -> bool {
+        within_bound(task.cycles, self.0)
     }
-    true
 }
 
-fn sections_fit(sections: &[Section], percent: u32) -> bool
-    ensures { λ r. ⌜ Decides r (All (λ c. grown-cycles (margin percent) (c .cycles) ≤ max-cycles) (now (sections .entry))) ⌝ }
-{
-    for section in sections {
-        if !fits(section.cycles, percent) {
-            return false;
-        }
+impl Choice<Section> for Fits as SectionFits {
+    ghost chosen = { λ s c. leb (grown-cycles (margin (s .0)) (c .cycles)) max-cycles };
+
+    fn chooses(&self, section: &Section) -> bool {
+        within_bound(section.cycles, self.0)
     }
-    true
 }
 
 // Growth by a margin in percent.
@@ -80,7 +79,7 @@ impl Roster {
     fn grows(&self, percent: u32) -> bool
         ensures { λ r. ⌜ Decides r (Grows (margin percent) (of (now (self .entry)))) ⌝ }
     {
-        tasks_fit(self.tasks(), percent) && sections_fit(self.sections(), percent)
+        every(self.tasks(), &Fits(percent)) && every(self.sections(), &Fits(percent))
     }
 
     // The copy, or nothing where some cycles would pass their bound.

@@ -1,9 +1,10 @@
 ghost use mathlib.Core.Path.{_≡_};
-ghost use mathlib.Core.Bool.{Bool};
+ghost use mathlib.Core.Bool.{Bool, true};
 ghost use mathlib.Core.List.{[], _∷_, _++_, map};
 ghost use Prim.Native.Nat.{_<_, _≤_};
 ghost use lib.ListN.{length, getD, set};
-ghost use Rattle.std.specs.shelf.Lists.{inserted, kept-by};
+ghost use Rattle.std.specs.Orderings.{Decides};
+ghost use Rattle.std.specs.shelf.Lists.{All, inserted, kept-by};
 ghost use Rattle.model.specs.Held.{held};
 ghost use Rattle.model.specs.Rewrite.{blank-task, rewritten};
 use super::Table;
@@ -15,6 +16,18 @@ pub trait Choice<T> {
 
     fn chooses(&self, item: &T) -> bool
         ensures { λ r. ⌜ r ≡ chosen (now (self .entry)) (now (item .entry)) ⌝ };
+}
+
+// Whether every item of a list is chosen.
+pub(crate) fn every<T, C: Choice<T>>(items: &[T], choice: &C) -> bool
+    ensures { λ r. ⌜ Decides r (All (λ x. C·Choice .chosen (now (choice .entry)) x ≡ true) (now (items .entry))) ⌝ }
+{
+    for item in items {
+        if !choice.chooses(item) {
+            return false;
+        }
+    }
+    true
 }
 
 // What is done to an item, as a value.
