@@ -1,8 +1,7 @@
 -- Each accepted call leaves a roster that keeps the rules.
-use mathlib.Core.Path.{_≡_, refl, sym, ap, _∙_, subst}
-use mathlib.Core.Bool.{Bool, true, false, cond, not}
+use mathlib.Core.Path.{_≡_, refl, sym, ap, _∙_}
+use mathlib.Core.Bool.{true, false, cond, not}
 use mathlib.Core.List.{List, [], _∷_, _++_, map}
-use mathlib.Core.Logic.{⊎-elim}
 use Prim.Native.Nat.{ℕ, _+_, _≤_, _<_}
 use native.Mathlib.Omega.{arith}
 use lib.Dec.{eqb, ltb}
@@ -21,13 +20,13 @@ use Rattle.model.specs.declared.kinds.Task.{Task}
 use Rattle.model.specs.declared.kinds.Section.{Section}
 use Rattle.model.specs.declared.refusals.StepsRefusal.the-variants.{Count, Range, Falling}
 use Rattle.model.specs.declared.refusals.RosterRefusal.the-variants.{Bound, Deadline, Floor, Taken, Absent, TasksFull, Overlong, SectionTaken, SectionsFull}
-use Rattle.model.specs.Bounds.{max-steps, max-switch, max-tasks, max-sections}
+use Rattle.model.specs.Bounds.{max-sections}
 use Rattle.model.specs.Calls.{LoadRule, loaded, EnterRule, joined-by, entered, AlterRule, replaced-by, altered, struck, SectionRule, section-entered, section-struck}
 use Rattle.model.specs.Lists.{Pairwise, first-by}
 use Rattle.model.specs.Lookup.{rank}
-use Rattle.model.specs.Records.{InRange, Above, TaskBounded, Ordered, FloorFits, MoreUrgent, has-priority, before, after, SectionBounded, Within, TakesIn, held-on, Apart, other-priority, other-owner, other-section}
+use Rattle.model.specs.Records.{TaskBounded, Ordered, FloorFits, MoreUrgent, has-priority, before, after, SectionBounded, Within, TakesIn, held-on, Apart, other-priority, other-owner, other-section}
 use Rattle.model.specs.Refusals.{AllKept}
-use Rattle.model.specs.System.{System, system, Keeps, task-at, section-at, Owned}
+use Rattle.model.specs.System.{System, system, Keeps, task-at, Owned}
 use Rattle.model.proofs.Lists.{all-both, all-kept-with, length-kept-by-le, pairwise-append, pairwise-push, pairwise-kept-by, pairwise-map, first-by-skip, first-by-none, first-by-passes, all-from-none, first-by-map, first-by-kept}
 use Rattle.model.proofs.Places.{inserted-joins}
 

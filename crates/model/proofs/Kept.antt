@@ -1,5 +1,4 @@
 -- Every roster keeps its rules: the fact in the roster's type, taken out of its truncation.
-use mathlib.Core.Path.{_≡_}
 use mathlib.Core.Bool.{Bool-set, false}
 use mathlib.Core.HLevel.{⊥-prop, Unit-prop}
 use mathlib.Core.List.{List, [], _∷_}
@@ -9,7 +8,6 @@ use Rattle.std.specs.Options.{Cases}
 use Rattle.std.specs.declared.option.Option.{Option}
 use Rattle.std.specs.declared.option.Option.the-variants.{None, Some}
 use Rattle.std.specs.shelf.Lists.{All}
-use Rattle.model.specs.declared.kinds.Step.{Step}
 use Rattle.model.specs.declared.kinds.Task.{Task}
 use Rattle.model.specs.declared.kinds.Section.{Section}
 use Rattle.model.specs.declared.roster.Roster.{Roster}

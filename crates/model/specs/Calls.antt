@@ -1,7 +1,7 @@
 -- For each call on a roster: the rule behind each refusal, and what an accepted call leaves.
 -- A refusal that a call never gives has the rule that asks nothing.
 use mathlib.Core.Path.{_≡_}
-use mathlib.Core.Bool.{Bool, true, false, cond}
+use mathlib.Core.Bool.{true, false, cond}
 use mathlib.Core.List.{List, [], _∷_, _++_, map}
 use Prim.Native.Nat.{ℕ, _≤_, _<_}
 use lib.ListN.{length}

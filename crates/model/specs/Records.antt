@@ -1,10 +1,9 @@
 -- The rules that a step, a task or a section keeps by itself, and how two of them compare.
 use mathlib.Core.Path.{_≡_}
-use mathlib.Core.Bool.{Bool, true, false, not, _&&_}
+use mathlib.Core.Bool.{Bool, false, not, _&&_}
 use Prim.Native.Nat.{ℕ, _≤_, _<_}
 use lib.Dec.{eqb, ltb}
 use Rattle.std.specs.Options.{Cases}
-use Rattle.std.specs.declared.option.Option.{Option}
 use Rattle.model.specs.declared.kinds.Step.{Step}
 use Rattle.model.specs.declared.kinds.Task.{Task}
 use Rattle.model.specs.declared.kinds.Section.{Section}

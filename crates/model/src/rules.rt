@@ -1,8 +1,6 @@
 // Each rule of a roster as a question. The first that is broken, in the order of their numbers, refuses a call.
 ghost use mathlib.Core.Path.{_≡_};
 ghost use mathlib.Core.Bool.{true};
-ghost use Prim.Native.Nat.{_≤_};
-ghost use lib.ListN.{length};
 ghost use Rattle.std.specs.Options.{isSome};
 ghost use Rattle.std.specs.Orderings.{Decides};
 ghost use Rattle.std.specs.shelf.Lists.{All};

@@ -1,6 +1,6 @@
 // The density test: deadlines are met where the tasks together need no more than the whole processor.
 ghost use mathlib.Core.Path.{_≡_};
-ghost use Prim.Native.Nat.{ℕ, _<_};
+ghost use Prim.Native.Nat.{_<_};
 ghost use lib.ListN.{length};
 ghost use Rattle.std.specs.Orderings.{Decides};
 ghost use Rattle.std.specs.shelf.Lists.{All};
@@ -37,7 +37,8 @@ fn part(roster: &Roster, task: &Task, step: u8) -> u64
     ensures { λ r. ⌜ r ≡ part-of (of (now (roster .entry))) (now (task .entry), step) ⌝ }
 {
     let time = time_of(roster, task.cycles, step).unwrap_or(0);
-    ((time + roster.switch_time() as u64) * WHOLE).div_ceil(task.deadline as u64)
+    let scaled = (time + roster.switch_time() as u64) * WHOLE;
+    scaled.div_ceil(task.deadline as u64)
 }
 
 // What all tasks need together.

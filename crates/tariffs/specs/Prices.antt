@@ -1,5 +1,5 @@
 -- The prices of the tariffs: of the task at a place in priority order, at a step.
-use mathlib.Core.Bool.{Bool, true, cond, _&&_}
+use mathlib.Core.Bool.{Bool, cond, _&&_}
 use Prim.Native.Nat.{ℕ, _*_}
 use lib.Dec.{ltb}
 use lib.ListN.{length, getD}

@@ -1,5 +1,4 @@
 // The energy of one release of each task: cycles times voltage squared.
-ghost use mathlib.Core.Path.{_≡_};
 ghost use Prim.Native.Nat.{_+_, _*_, _≤_};
 ghost use lib.Dec.{leb};
 ghost use Rattle.tariffs.specs.Prices.{energy-price, max-energy-price};

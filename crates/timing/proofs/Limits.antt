@@ -1,25 +1,21 @@
 -- The bounds of a system's loads and holds, and so of a task's own part.
-use mathlib.Core.Path.{_≡_, refl, sym, ap, _∙_}
-use mathlib.Core.Bool.{Bool, cond}
+use mathlib.Core.Path.{_≡_, ap, _∙_}
 use mathlib.Core.List.{List, [], _∷_, map}
 use mathlib.Core.Logic.{⊎-elim}
-use Prim.Native.Nat.{ℕ, _+_, _≤_, _<_, min, max}
+use Prim.Native.Nat.{ℕ, _+_, _≤_, _<_, max}
 use native.Mathlib.Omega.{arith}
 use lib.ListN.{length, getD}
 use Rattle.std.specs.Finite.{zipped}
 use Rattle.std.specs.Iters.{folded}
-use Rattle.std.specs.Options.{Cases}
 use Rattle.std.specs.shelf.Lists.{All, kept-by}
 use Rattle.std.proofs.shelf.Elements.{all-from-getD, all-getD, all-kept-by, all-map}
 use Rattle.std.proofs.shelf.Lists.{getD-map}
 use Rattle.std.proofs.shelf.Pairs.{length-zipped}
-use Rattle.model.specs.declared.kinds.Section.{Section}
-use Rattle.model.specs.Lookup.{rank, StandsAt}
-use Rattle.model.specs.Records.{TaskBounded, Ordered, SectionBounded, Within}
+use Rattle.model.specs.Lookup.{rank}
+use Rattle.model.specs.Records.{TaskBounded, Ordered, Within}
 use Rattle.model.specs.Rewrite.{blank-task}
 use Rattle.model.specs.System.{System, Keeps, Owned}
 use Rattle.model.proofs.Lookups.{sought}
-use Rattle.timing.specs.declared.demand.Load.{Load}
 use Rattle.timing.specs.declared.holds.Hold.{Hold}
 use Rattle.timing.specs.Bounds.{max-time}
 use Rattle.timing.specs.Demand.{Bounded}

@@ -37,10 +37,7 @@ time-some cycles khz some fast =
     let pos : 0 * khz < time cycles khz * khz = omega (arith, up-covers (cycles * 1000) khz (omega arith)) in
     lt-of-mul-lt-mul-right khz pos
 
--- a list of the tasks' length is a set exactly where it is in the table
-pub isset-from : (s : System) (set : List ℕ) → length set ≡ length (s .tasks) → InTable s set → IsSet s set
-isset-from s set whole named = record { whole = whole; named = rw (take-all (length (s .tasks)) set (omega arith)) at named }
-
+-- the set of a list of the tasks' length is the list
 pub table-from : (s : System) (set : List ℕ) → IsSet s set → InTable s set
 table-from s set isset = rw (take-all (length (s .tasks)) set (omega arith)) (isset .named)
 

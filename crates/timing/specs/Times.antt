@@ -8,7 +8,6 @@ use lib.ListN.{length, getD, take}
 use Rattle.std.specs.Finite.{zipped}
 use Rattle.std.specs.Iters.{folded}
 use Rattle.std.specs.shelf.Lists.{All, Each, kept-by}
-use Rattle.model.specs.declared.kinds.Step.{Step}
 use Rattle.model.specs.declared.kinds.Task.{Task}
 use Rattle.model.specs.declared.kinds.Section.{Section}
 use Rattle.model.specs.Lookup.{rank}

@@ -32,10 +32,14 @@ demand-at s set i w = demand (own s set i) (take i (loads s set)) w
 abbrev pub MeetsAt : System → List ℕ → ℕ → ℕ → Type 0
 MeetsAt s set i w = Meets (demand-at s set i) (task s i .jitter) (task s i .deadline) w
 
+-- every task meets its deadline
+abbrev pub AllMeet : System → List ℕ → Type 0
+AllMeet s set = (i : ℕ) → i < length (s .tasks) → (w : ℕ) × MeetsAt s set i w
+
 -- every task meets its deadline under a set of the system
 pub record Responds (s : System) (set : List ℕ) : Type 0 where
   pub isset : IsSet s set
-  pub meets : (i : ℕ) → i < length (s .tasks) → (w : ℕ) × MeetsAt s set i w
+  pub meets : AllMeet s set
 
 -- ---- the windows call
 

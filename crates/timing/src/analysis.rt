@@ -1,7 +1,7 @@
 // What one question about a set works out once.
 ghost use mathlib.Core.Bool.{true};
 ghost use mathlib.Core.Path.{_≡_};
-ghost use Prim.Native.Nat.{ℕ, _<_, _≤_};
+ghost use Prim.Native.Nat.{ℕ, _<_};
 ghost use lib.ListN.{length, getD, take};
 ghost use mathlib.Core.List.{List};
 ghost use Rattle.std.specs.Options.{isSome};

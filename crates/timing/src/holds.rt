@@ -1,7 +1,7 @@
 // Sections as the tasks that they may block see them.
 ghost use mathlib.Core.Path.{_≡_};
-ghost use Prim.Native.Nat.{ℕ, _<_, _≤_};
-ghost use lib.ListN.{length, getD};
+ghost use Prim.Native.Nat.{ℕ, _<_};
+ghost use lib.ListN.{getD};
 ghost use Rattle.std.specs.shelf.Lists.{All};
 ghost use Rattle.model.specs.Records.{SectionBounded};
 ghost use Rattle.timing.specs.Times.{ceiling, blocks as blocked-by, blocking as longest};

@@ -1,14 +1,14 @@
 // The windows of a roster's tasks under a set of steps.
 ghost use mathlib.Core.Path.{_≡_};
-ghost use lib.ListN.{length, take};
 ghost use Rattle.std.specs.Orderings.{Decides};
 ghost use Rattle.std.specs.Results.{Cases};
 ghost use Rattle.model.specs.Of.{of};
 ghost use Rattle.model.specs.Refusals.{call-number, AllKept, First, Verdict};
-ghost use Rattle.timing.specs.Times.{front};
-ghost use Rattle.timing.specs.Windows.{WindowsRule, Filled, Responds};
+ghost use Rattle.timing.specs.Times.{IsSet, front};
+ghost use Rattle.timing.specs.Windows.{WindowsRule, Filled, AllMeet, Responds};
 use crate::analysis::Analysis;
 use crate::sets::in_table;
+use crate::sets::is_set;
 use model::refusals::CallRefusal;
 use model::roster::Roster;
 
@@ -39,18 +39,13 @@ pub fn windows(roster: &Roster, set: &[u8], out: &mut [u32]) -> Result<(), CallR
     Ok(())
 }
 
-// Whether a list stands for a set under which every task meets its deadline.
-pub fn all_meet(roster: &Roster, set: &[u8]) -> bool
-    ensures { λ r. ⌜ Decides r (Responds (of (now (roster .entry))) (take (length (of (now (roster .entry)) .tasks)) (now (set .entry)))) ⌝ }
+// Whether every task meets its deadline under the set that a list stands for.
+fn meet(roster: &Roster, list: &[u8]) -> bool
+    requires { ⌜ IsSet (of (now roster)) (front (of (now roster)) (now list)) ⌝ }
+    ensures { λ r. ⌜ Decides r (AllMeet (of (now (roster .entry))) (front (of (now (roster .entry))) (now (list .entry)))) ⌝ }
 {
     let tasks = roster.tasks().len();
-    if set.len() < tasks {
-        return false;
-    }
-    let set = &set[0..tasks];
-    if !in_table(roster, set) {
-        return false;
-    }
+    let set = &list[0..tasks];
     let analysis = Analysis::new(roster, set);
     for i in 0..tasks {
         if analysis.window(roster, i).is_none() {
@@ -58,4 +53,11 @@ pub fn all_meet(roster: &Roster, set: &[u8]) -> bool
         }
     }
     true
+}
+
+// Whether a list stands for a set under which every task meets its deadline.
+pub fn all_meet(roster: &Roster, list: &[u8]) -> bool
+    ensures { λ r. ⌜ Decides r (Responds (of (now (roster .entry))) (front (of (now (roster .entry))) (now (list .entry)))) ⌝ }
+{
+    is_set(roster, list) && meet(roster, list)
 }

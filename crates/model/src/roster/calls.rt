@@ -1,6 +1,5 @@
 // The calls of a roster. A refused call changes nothing.
 ghost use mathlib.Core.Path.{_≡_};
-ghost use mathlib.Core.Bool.{Bool};
 ghost use Rattle.model.specs.Calls.{LoadRule, loaded, EnterRule, entered, AlterRule, altered, StrikeRule, struck, SectionRule, section-entered, SectionStrikeRule, section-struck};
 ghost use Rattle.model.specs.Of.{of};
 ghost use Rattle.model.specs.Records.{other-priority, other-owner, other-section};

@@ -1,6 +1,4 @@
-use mathlib.Core.Path.{_≡_, _∙_, sym, ap}
-use Prim.Native.Nat.{_+_}
-use native.Mathlib.Nat.{add-mul}
+use mathlib.Core.Path.{_∙_, ap}
 use native.Mathlib.Omega.{arith}
 use lib.ListN.{length, length-take}
 use Rattle.std.specs.Finite.{zipped}
@@ -9,7 +7,6 @@ use Rattle.std.proofs.shelf.Lists.{take-all}
 use Rattle.std.proofs.shelf.Pairs.{length-zipped}
 use Rattle.model.specs.Of.{of}
 use Rattle.model.proofs.Kept.{kept}
-use Rattle.timing.specs.Bounds.{max-cost}
 use Rattle.timing.specs.Times.{front}
 use Rattle.schedulability.specs.Density.{part, whole}
 use Rattle.schedulability.proofs.Parts.{part-next, part-small, step-in, task-bounded}

@@ -8,8 +8,8 @@ use Rattle.timing.specs.Times.{clock, time}
 use Rattle.schedulability.proofs.Parts.{cost-fits}
 use Rattle.schedulability.proofs.density.part.Needs as need
 
-pub mul-time : need.mul-time
-mul-time c =
+pub mul-scaled : need.mul-scaled
+mul-scaled c =
     let r = c .args .roster .now in
     let t = c .args .task .now in
     let took : c .unwrap-or-time .result ≡ time (t .cycles) (clock (of r) (c .args .step)) =

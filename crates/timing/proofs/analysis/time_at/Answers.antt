@@ -1,6 +1,4 @@
-use Prim.Native.Nat.{_<_}
 use native.Mathlib.Omega.{arith}
-use lib.ListN.{getD}
 use Rattle.model.specs.Of.{of}
 use Rattle.model.proofs.Kept.{kept}
 use Rattle.timing.proofs.Systems.{clock-fast}

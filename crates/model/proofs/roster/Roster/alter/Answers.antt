@@ -2,7 +2,6 @@ use mathlib.Core.Path.{_≡_, _∙_, ap, refl}
 use mathlib.Core.List.{List, map}
 use Prim.Native.Nat.{ℕ}
 use lib.ListN.{set, getD}
-use Rattle.std.specs.Options.{isSome}
 use Rattle.std.proofs.shelf.Tests.{false≢true}
 use Rattle.model.specs.declared.kinds.Task.{Task}
 use Rattle.model.specs.declared.refusals.RosterRefusal.the-variants.{Absent}
