@@ -2,6 +2,8 @@
 #[cfg(test)]
 mod charges;
 #[cfg(test)]
+mod numbers;
+#[cfg(test)]
 mod rosters;
 #[cfg(test)]
 mod sample;

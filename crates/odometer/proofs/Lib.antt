@@ -1,0 +1,5 @@
+pub mod Numbering
+pub mod Numbers
+pub mod Reading
+pub mod Skips
+pub mod Turning
