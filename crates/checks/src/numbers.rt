@@ -13,8 +13,7 @@ fn nine_sets(number: u64) -> Odometer {
 // Where the walk goes on after a failure.
 fn after_failure(number: u64) -> u64 {
     let mut sets = nine_sets(number);
-    let zeros = sets.zeros();
-    sets.advance(zeros.saturating_add(1));
+    sets.skip();
     sets.number()
 }
 

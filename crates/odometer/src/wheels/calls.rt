@@ -1,6 +1,7 @@
 // The calls of an odometer.
 ghost use mathlib.Core.Path.{_≡_};
-ghost use Prim.Native.Nat.{min, max};
+ghost use Prim.Native.Nat.{ℕ, _+_, _≤_, _<_, min, max};
+ghost use Rattle.std.specs.shelf.Lists.{Each};
 ghost use Rattle.odometer.specs.Digits.{digits, total, Zeros, next-multiple};
 use super::Odometer;
 use super::turns;
@@ -68,5 +69,16 @@ impl Odometer {
         let power = self.powers[cleared];
         self.number = (self.number / power + 1) * power;
         turns::forward(&mut self.wheels[0..places], self.base, cleared);
+    }
+
+    // On past every number that has in no place a smaller digit than this one.
+    pub fn skip(&mut self)
+        ensures base { λ _. ⌜ now (self .exit) .base ≡ now (self .entry) .base ⌝ }
+        ensures places { λ _. ⌜ now (self .exit) .places ≡ now (self .entry) .places ⌝ }
+        ensures number { λ _. ⌜ ((z : ℕ) → Zeros (now (self .entry) .base) (now (self .entry) .places) (now (self .entry) .number) z → now (self .exit) .number ≡ min (next-multiple (now (self .entry) .base) (z + 1) (now (self .entry) .number)) (total (now (self .entry) .base) (now (self .entry) .places))) ⌝ }
+        ensures passed { λ _. ⌜ ((n : ℕ) → now (self .entry) .number ≤ n → n < now (self .exit) .number → Each _≤_ (digits (now (self .entry) .base) (now (self .entry) .places) (now (self .entry) .number)) (digits (now (self .entry) .base) (now (self .entry) .places) n)) ⌝ }
+    {
+        let zeros = self.zeros();
+        self.advance(zeros + 1);
     }
 }
