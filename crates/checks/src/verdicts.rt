@@ -3,6 +3,8 @@ use model::kinds::Task;
 use model::roster::Roster;
 use schedulability::density::Density;
 use schedulability::density::DensityTest;
+use schedulability::floors::Floored;
+use schedulability::floors::FlooredTest;
 use schedulability::margin::Margin;
 use schedulability::margin::MarginTest;
 use schedulability::pair::Pair;
@@ -168,4 +170,29 @@ fn both_or_none() -> Result<(), Fail> {
     check_eq(answer(roster.enter_section(section(1, 0, 1))), 0)?;
     check(Response.ask(&roster, &[0]))?;
     check(!both.ask(&roster, &[0]))
+}
+
+// A floor is the slowest step allowed, and one without a floor may run at any.
+#[test]
+fn floors() -> Result<(), Fail> {
+    let mut roster = small();
+    let floored = Floored { below: Response };
+    check_eq(
+        answer(roster.alter(Task {
+            floor: Some(0),
+            ..plain(3)
+        })),
+        0,
+    )?;
+    check_eq(
+        answer(roster.alter(Task {
+            floor: None,
+            ..plain(7)
+        })),
+        0,
+    )?;
+    check(Response.ask(&roster, &[1, 1]))?;
+    check(!floored.ask(&roster, &[1, 1]))?;
+    check(floored.ask(&roster, &[0, 1]))?;
+    check(!floored.ask(&roster, &[0]))
 }

@@ -1,2 +1,3 @@
+pub mod Floorings
 pub mod Growths
 pub mod Parts

@@ -1,2 +1,3 @@
 pub mod Density
+pub mod Floors
 pub mod Laws
