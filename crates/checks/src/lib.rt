@@ -1,4 +1,5 @@
 // Examples at the limits of the rules, run against the library. The crate has nothing but its tests.
+#![tactic(auto)]
 #[cfg(test)]
 mod charges;
 #[cfg(test)]

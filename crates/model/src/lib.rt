@@ -1,4 +1,6 @@
 // Steps, tasks, sections, and the roster that holds them.
+#![tactic(auto)]
+
 pub mod kinds;
 pub mod lookup;
 pub mod refusals;

@@ -1,4 +1,5 @@
 // The search for the cheapest set of steps with which every task is in time.
+#![tactic(auto)]
 pub mod events;
 pub mod findings;
 pub mod mark;

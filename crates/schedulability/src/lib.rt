@@ -1,4 +1,5 @@
 // Schedulability tests: whether every task of a roster is in time under a set of steps.
+#![tactic(auto)]
 pub mod density;
 pub mod floors;
 pub mod margin;

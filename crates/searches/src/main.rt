@@ -1,4 +1,5 @@
 // Prints two searches for the cheapest set of a sample.
+#![tactic(auto)]
 mod sample;
 mod search;
 mod trouble;

@@ -1,4 +1,5 @@
 // What a set of steps costs.
+#![tactic(auto)]
 pub mod amount;
 pub mod charge;
 pub mod energy;

@@ -1,4 +1,6 @@
 // Texts of lines, items and decimal numbers.
+#![tactic(auto)]
+
 pub mod items;
 pub mod numbers;
 pub mod reader;

@@ -1,4 +1,5 @@
 // Times and response windows of a roster's tasks.
+#![tactic(auto)]
 mod analysis;
 mod demand;
 mod holds;
