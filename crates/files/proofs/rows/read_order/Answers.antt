@@ -15,17 +15,17 @@ unreachable-requires c =
     let ps = parts space c.args.text.now in
     let count = c.if-not-fills.ensures.0 refl in
     let lt : c.loop-place.place < length ps = omega (arith, count, c.width-place-end.ensures) in
-    items_left ps (left c.loop-place.items) c.loop-place.place lt c.loop-place.invariant.0 c.in-default.ensures.0
+    items_left ps (left c.loop-place.items) c.loop-place.place lt c.loop-place.invariant.0 c.in_default.ensures.0
 
-pub returns-in-default-new-column : goal.returns-in-default-new-column
-returns-in-default-new-column c order is =
+pub returns-in_default-new_column : goal.returns-in_default-new_column
+returns-in_default-new_column c order is =
     let ps = parts space c.args.text.now in
     let count = c.if-not-fills.ensures.0 refl in
     let lt : c.loop-place.place < width c.args.block = omega (arith, c.width-place-end.ensures) in
     let low : c.loop-place.place < length ps = omega (arith, count, c.width-place-end.ensures) in
-    let more = item_next ps (left c.loop-place.items) (left c.next-item.new.self) c.in-Some.item.now c.loop-place.place low c.loop-place.invariant.0 c.in-Some.ensures in
+    let more = item_next ps (left c.loop-place.items) (left c.next_item.new.self) c.in-Some.item.now c.loop-place.place low c.loop-place.invariant.0 c.in-Some.ensures in
     named_none c.args.block c.loop-place.order c.args.text.now c.in-Some.item.now c.loop-place.place
-    lt c.loop-place.invariant.1 more.0 c.in-default-new-column.ensures order is
+    lt c.loop-place.invariant.1 more.0 c.in_default-new_column.ensures order is
 
 pub loop-place-preserved : goal.loop-place-preserved
 loop-place-preserved c =
@@ -36,10 +36,10 @@ loop-place-preserved c =
     let count = c.if-not-fills.ensures.0 refl in
     let lt : i < length ps = omega (arith, count, c.width-place-end.ensures) in
     let room : i < length o = omega (arith, c.width-place-end.ensures, width_few b) in
-    let more = item_next ps (left c.loop-place.items) (left c.next-item.new.self) c.in-Some.item.now i lt c.loop-place.invariant.0 c.in-Some.ensures in (
+    let more = item_next ps (left c.loop-place.items) (left c.next_item.new.self) c.in-Some.item.now i lt c.loop-place.invariant.0 c.in-Some.ensures in (
       more.1,
-      named_more b o c.in-Some.item.now ps i c.in-Some-new-column.column lt room c.loop-place.invariant.1 more.0 c.in-Some-new-column.ensures,
-      length-set o i c.in-Some-new-column.column ∙ c.loop-place.invariant.2,
+      named_more b o c.in-Some.item.now ps i c.in-Some-new_column.column lt room c.loop-place.invariant.1 more.0 c.in-Some-new_column.ensures,
+      length-set o i c.in-Some-new_column.column ∙ c.loop-place.invariant.2,
     )
 
 pub returns : goal.returns

@@ -13,19 +13,19 @@ pub unreachable-requires : goal.unreachable-requires
 unreachable-requires c =
     let ps = parts space c.args.text.now in
     let lt : c.loop-place.place < length ps = omega (arith, c.requires.count, c.width-place-end.ensures) in
-    items_left ps (left c.loop-place.items) c.loop-place.place lt c.loop-place.invariant.0 c.in-default.ensures.0
+    items_left ps (left c.loop-place.items) c.loop-place.place lt c.loop-place.invariant.0 c.in_default.ensures.0
 
-pub returns-in-err-row : goal.returns-in-err-row
-returns-in-err-row c =
+pub returns-in_err-row : goal.returns-in_err-row
+returns-in_err-row c =
     let cs = c.args.columns.now in
     let lt : c.loop-place.place < width cs.block = omega (arith, c.width-place-end.ensures) in
     let ps = parts space c.args.text.now in
     let low : c.loop-place.place < length ps = omega (arith, c.requires.count, c.width-place-end.ensures) in
-    let more = item_next ps (left c.loop-place.items) (left c.next-item.new.self) c.in-Some.item.now c.loop-place.place low c.loop-place.invariant.0 c.in-Some.ensures in
+    let more = item_next ps (left c.loop-place.items) (left c.next_item.new.self) c.in-Some.item.now c.loop-place.place low c.loop-place.invariant.0 c.in-Some.ensures in
     let p = err_from_is_err_and c.from-residual.result c.from-residual.ensures.1 in
     rw (p.1, p.2)
     (row_wrong cs.block cs.order c.args.text.now c.in-Some.item.now c.loop-place.row c.loop-place.place lt more.0 c.loop-place.invariant.1
-    c.args.line c.in-err-row.field-0.0 c.requires.count c.in-err-row.ensures)
+    c.args.line c.in_err-row.field-0.0 c.requires.count c.in_err-row.ensures)
 
 pub loop-place-preserved : goal.loop-place-preserved
 loop-place-preserved c =
@@ -36,10 +36,10 @@ loop-place-preserved c =
     let room : width cs.block ≤ length row = omega (arith, width_few cs.block) in
     let ps = parts space c.args.text.now in
     let low : i < length ps = omega (arith, c.requires.count, c.width-place-end.ensures) in
-    let more = item_next ps (left c.loop-place.items) (left c.next-item.new.self) c.in-Some.item.now i low c.loop-place.invariant.0 c.in-Some.ensures in (
+    let more = item_next ps (left c.loop-place.items) (left c.next_item.new.self) c.in-Some.item.now i low c.loop-place.invariant.0 c.in-Some.ensures in (
       more.1,
-      filled_on cs.block cs.order c.args.text.now c.in-Some.item.now row i lt more.0 c.loop-place.invariant.1 c.in-ok-row.field-0 c.requires.order room c.in-ok-row.ensures,
-      length-set row (get_or cs.order i 0) c.in-ok-row.field-0 ∙ c.loop-place.invariant.2,
+      filled_on cs.block cs.order c.args.text.now c.in-Some.item.now row i lt more.0 c.loop-place.invariant.1 c.in_ok-row.field-0 c.requires.order room c.in_ok-row.ensures,
+      length-set row (get_or cs.order i 0) c.in_ok-row.field-0 ∙ c.loop-place.invariant.2,
     )
 
 pub returns : goal.returns

@@ -22,8 +22,8 @@ part-sum-requires c =
       named = step_in (of r) c.args.set.now (kept r) c.requires _ items c.loop-i.i c.loop-i-test.true;
     }
 
-pub overflow-add-sum : goal.overflow-add-sum
-overflow-add-sum c =
+pub overflow_add-sum : goal.overflow_add-sum
+overflow_add-sum c =
     let r = c.args.roster.now in
     let small = part_small (of r) c.args.set.now (kept r) c.requires _ c.tasks-task-items.ensures c.loop-i.i c.loop-i-test.true in
     omega (arith, c.part-sum.ensures, small, c.loop-i.invariant.1, c.loop-i-test.true, ap length c.tasks-task-items.ensures, (kept r).few_tasks)

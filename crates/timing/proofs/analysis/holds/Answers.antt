@@ -12,8 +12,8 @@ use Rattle.timing.proofs.analysis.holds.Goals as goal
 pub ceilings-ceilings-requires : goal.ceilings-ceilings-requires
 ceilings-ceilings-requires c = rw c.sections.ensures (kept c.args.roster.now).sections_bounded
 
-pub step-of-step-requires : goal.step-of-step-requires
-step-of-step-requires c =
+pub step_of-step-requires : goal.step_of-step-requires
+step_of-step-requires c =
     let r = c.args.roster.now in
     record { long = c.requires.long; steps = c.requires.steps; stands = owner_stands (of r) _ c.loop-i.i (kept r) c.sections-section-items.ensures c.loop-i-test.true }
 
@@ -34,7 +34,7 @@ loop-i-preserved c =
     let resource = (get_or c.sections-section-items.result.now i blank_section).resource in
     let inside : resource < 8 = rw items (omega (arith, (All-get_or SectionBounded s.sections i blank_section low (kept r).sections_bounded).1)) in
     let roof = c.ceilings-ceilings.ensures resource inside ∙ ap (λ xs. ceiling xs resource) c.sections.ensures in
-    let made = made_hold s c.args.set.now _ i _ _ _ items roof c.step-of-step.ensures.value c.time-at.ensures in
+    let made = made_hold s c.args.set.now _ i _ _ _ items roof c.step_of-step.ensures.value c.time_at.ensures in
     (next_mapped (hold s c.args.set.now) s.sections c.loop-i.holds i blank_section _ low room c.loop-i.invariant.0 made, length-set _ _ _ ∙ c.loop-i.invariant.1)
 
 pub returns : goal.returns

@@ -4,7 +4,7 @@ use Rattle.model.proofs.Kept.{kept}
 use Rattle.timing.proofs.Systems.{clock_fast}
 use Rattle.timing.proofs.analysis.time_at.Goals as goal
 
-pub div-ceil-requires : goal.div-ceil-requires
-div-ceil-requires c =
+pub div_ceil-requires : goal.div_ceil-requires
+div_ceil-requires c =
     let r = c.args.roster.now in
     rw c.steps.ensures (omega (arith, clock_fast (of r) c.args.step (kept r) c.requires))

@@ -17,8 +17,8 @@ loop-load-preserved c =
     omega arith
 
 -- the demand of one more load is at most that of all
-pub overflow-add-total : goal.overflow-add-total
-overflow-add-total c =
+pub overflow_add-total : goal.overflow_add-total
+overflow_add-total c =
     omega (
       arith,
       loop-load-preserved c,

@@ -14,8 +14,8 @@ loop-load-preserved c =
     omega arith
 
 -- one more share makes at most the sum of all
-pub overflow-add-total : goal.overflow-add-total
-overflow-add-total c =
+pub overflow_add-total : goal.overflow_add-total
+overflow_add-total c =
     omega (
       arith,
       loop-load-preserved c,

@@ -6,7 +6,7 @@ use Rattle.timing.proofs.demand.start.Goals as goal
 
 pub returns : goal.returns
 returns c =
-    simp c.div-ceil.ensures
+    simp c.div_ceil.ensures
     (record {
       under =
           under_start _ _ _ _ c.requires.positive (omega arith) (omega arith) (omega arith)

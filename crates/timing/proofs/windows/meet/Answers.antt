@@ -24,8 +24,8 @@ module _ (s : System) (list : List ℕ) (set : IsSet s (front s list)) {tasks : 
   named : InTable s (take (length tasks - 0) list)
   named = rw (taken s list are) (table_from s (front s list) set)
 
-pub slice-bounds-set-end : goal.slice-bounds-set-end
-slice-bounds-set-end c =
+pub slice_bounds-set-end : goal.slice_bounds-set-end
+slice_bounds-set-end c =
     let fits = long (of c.args.roster.now) c.args.list.now c.requires c.tasks-tasks.ensures in
     search rules
 
@@ -45,13 +45,13 @@ window-requires c =
 pub loop-i-preserved : goal.loop-i-preserved
 loop-i-preserved c =
     let says = rw (taken (of c.args.roster.now) c.args.list.now c.tasks-tasks.ensures) at c.new-analysis.ensures in
-    below_more _ _ c.loop-i.invariant ((meets_decided _ _ _ c.window.result (c.window.ensures _ says)).0 c.if-is-none.ensures)
+    below_more _ _ c.loop-i.invariant ((meets_decided _ _ _ c.window.result (c.window.ensures _ says)).0 c.if-is_none.ensures)
 
-pub returns-then-is-none : goal.returns-then-is-none
-returns-then-is-none c =
+pub returns-then-is_none : goal.returns-then-is_none
+returns-then-is_none c =
     let says = rw (taken (of c.args.roster.now) c.args.list.now c.tasks-tasks.ensures) at c.new-analysis.ensures in
     let low = rw c.tasks-tasks.ensures at c.loop-i-test.true in
-    (λ e. absurd (false≢true e), λ meets. absurd (both_ways _ c.if-is-none.ensures ((meets_decided _ _ _ c.window.result (c.window.ensures _ says)).1 (meets c.loop-i.i low))))
+    (λ e. absurd (false≢true e), λ meets. absurd (both_ways _ c.if-is_none.ensures ((meets_decided _ _ _ c.window.result (c.window.ensures _ says)).1 (meets c.loop-i.i low))))
 
 pub returns : goal.returns
 returns c = (λ _ i low. c.loop-i.invariant i (omega (arith, ap length c.tasks-tasks.ensures, c.loop-i-test.false)), λ _. refl)

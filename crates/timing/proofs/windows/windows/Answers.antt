@@ -20,25 +20,25 @@ told_more s set out i v room so_far here =
 
 pub new-analysis-requires : goal.new-analysis-requires
 new-analysis-requires c =
-    let rule = c.in-ok-judge.ensures in
+    let rule = c.in_ok-judge.ensures in
     record { long = (rule ShortList).0; steps = rule NoSuchStep }
 
 pub window-requires : goal.window-requires
 window-requires c =
-    let rule = c.in-ok-judge.ensures in
+    let rule = c.in_ok-judge.ensures in
     record { place = rw c.tasks-i-end.ensures at c.loop-i-test.true; describes = (c.args.set.now, (rule ShortList).0, rule NoSuchStep, c.new-analysis.ensures) }
 
-pub overflow-cast-out : goal.overflow-cast-out
-overflow-cast-out c =
+pub overflow_cast-out : goal.overflow_cast-out
+overflow_cast-out c =
     let r = c.args.roster.now in
     let i = c.loop-i.i in
     let low : i < length (of r).tasks = rw c.tasks-i-end.ensures at c.loop-i-test.true in
     let due : (task (of r) i).deadline ≤ 100_000_000 = omega (arith, All-get_or TaskBounded (of r).tasks i blank_task low (kept r).bounded, All-get_or Ordered (of r).tasks i blank_task low (kept r).ordered) in
-    omega (arith, due, c.unwrap-or.ensures, told_within _ _ _ c.window.result (c.window.ensures c.args.set.now c.new-analysis.ensures))
+    omega (arith, due, c.unwrap_or.ensures, told_within _ _ _ c.window.result (c.window.ensures c.args.set.now c.new-analysis.ensures))
 
 pub bounds-out-i : goal.bounds-out-i
 bounds-out-i c =
-    omega (arith, ap length c.tasks-i-end.ensures, c.loop-i-test.true, c.loop-i.auto.out, (c.in-ok-judge.ensures ShortList).1)
+    omega (arith, ap length c.tasks-i-end.ensures, c.loop-i-test.true, c.loop-i.auto.out, (c.in_ok-judge.ensures ShortList).1)
 
 pub loop-i-preserved : goal.loop-i-preserved
 loop-i-preserved c =
@@ -47,7 +47,7 @@ loop-i-preserved c =
     let i = c.loop-i.i in
     let out = c.loop-i.out in
     let low : i < length (of r).tasks = rw c.tasks-i-end.ensures at c.loop-i-test.true in
-    let room : i < length out = omega (arith, low, c.loop-i.auto.out, (c.in-ok-judge.ensures ShortList).1) in
+    let room : i < length out = omega (arith, low, c.loop-i.auto.out, (c.in_ok-judge.ensures ShortList).1) in
     let judged = c.window.ensures set c.new-analysis.ensures in
-    let here : Told (of r) set i c.unwrap-or.result = rw c.unwrap-or.ensures (told_from _ _ _ c.window.result judged) in
-    (told_more (of r) set out i c.unwrap-or.result room c.loop-i.invariant.0 here, drop-set-lt _ out i _ low ∙ c.loop-i.invariant.1)
+    let here : Told (of r) set i c.unwrap_or.result = rw c.unwrap_or.ensures (told_from _ _ _ c.window.result judged) in
+    (told_more (of r) set out i c.unwrap_or.result room c.loop-i.invariant.0 here, drop-set-lt _ out i _ low ∙ c.loop-i.invariant.1)

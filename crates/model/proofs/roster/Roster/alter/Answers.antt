@@ -20,21 +20,21 @@ replaced r t slice left at is place put =
     let there = rw is at place in
     put ∙ set_rewrites t (held r.tasks) at (kept r).rising there.0 there.1
 
-pub invariant-of-self : goal.invariant-of-self
-invariant-of-self c =
+pub invariant_of-self : goal.invariant_of-self
+invariant_of-self c =
     let r = c.args.self.now in
     let tasks = replaced r c.args.task _ _ _ c.tasks.ensures c.in-Some.ensures c.alter.ensures in
-    let keeps = keeps_altered (of r) c.args.task (kept r) c.in-ok-judge-alteration.ensures in
+    let keeps = keeps_altered (of r) c.args.task (kept r) c.in_ok-judge_alteration.ensures in
     (keeps_at (same_system r.switch refl tasks refl) keeps, tt)
 
 pub returns-in-Some : goal.returns-in-Some
 returns-in-Some c =
     let r = c.args.self.now in
     let tasks = replaced r c.args.task _ _ _ c.tasks.ensures c.in-Some.ensures c.alter.ensures in
-    (c.in-ok-judge-alteration.ensures, same_system r.switch refl tasks refl)
+    (c.in_ok-judge_alteration.ensures, same_system r.switch refl tasks refl)
 
 -- a task that stands is found
-pub returns-in-default : goal.returns-in-default
-returns-in-default c =
-    let none = missed _ _ (kept c.args.self.now).rising (rw c.tasks.ensures at c.in-default.ensures) in
-    absurd (false≢true (rw none at (c.in-ok-judge-alteration.ensures Absent)))
+pub returns-in_default : goal.returns-in_default
+returns-in_default c =
+    let none = missed _ _ (kept c.args.self.now).rising (rw c.tasks.ensures at c.in_default.ensures) in
+    absurd (false≢true (rw none at (c.in_ok-judge_alteration.ensures Absent)))

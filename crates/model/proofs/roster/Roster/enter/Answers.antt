@@ -28,17 +28,17 @@ insert-requires c =
     let tasks = held c.args.self.now.tasks in
     let p = c.args.task.priority in
     let at : c.rank-at.result ≤ length tasks = rw (c.rank-at.ensures ∙ ap (rank p) c.tasks.ensures) (prefix_len-le-length (before p) tasks) in
-    (omega arith, (c.in-ok-judge-entry.ensures TasksFull, at))
+    (omega arith, (c.in_ok-judge_entry.ensures TasksFull, at))
 
-pub invariant-of-self : goal.invariant-of-self
-invariant-of-self c =
+pub invariant_of-self : goal.invariant_of-self
+invariant_of-self c =
     let r = c.args.self.now in
-    let rule = c.in-ok-judge-entry.ensures in
+    let rule = c.in_ok-judge_entry.ensures in
     let tasks = joined r c.args.task _ _ _ c.tasks.ensures c.rank-at.ensures c.insert.ensures rule in
     (keeps_at (same_system r.switch refl tasks refl) (keeps_entered (of r) c.args.task (kept r) rule), tt)
 
 pub returns : goal.returns
 returns c =
     let r = c.args.self.now in
-    let rule = c.in-ok-judge-entry.ensures in
+    let rule = c.in_ok-judge_entry.ensures in
     (rule, same_system r.switch refl (joined r c.args.task _ _ _ c.tasks.ensures c.rank-at.ensures c.insert.ensures rule) refl)

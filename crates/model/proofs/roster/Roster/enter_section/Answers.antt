@@ -6,10 +6,10 @@ use Rattle.model.proofs.Kept.{kept}
 use Rattle.model.proofs.roster.Roster.enter_section.Goals as goal
 
 pub push-requires : goal.push-requires
-push-requires c = (omega arith, c.in-ok-judge-section.ensures SectionsFull)
+push-requires c = (omega arith, c.in_ok-judge_section.ensures SectionsFull)
 
-pub invariant-of-self : goal.invariant-of-self
-invariant-of-self c =
+pub invariant_of-self : goal.invariant_of-self
+invariant_of-self c =
     let r = c.args.self.now in
-    let keeps = keeps_section_entered (of r) c.args.section (kept r) c.in-ok-judge-section.ensures in
+    let keeps = keeps_section_entered (of r) c.args.section (kept r) c.in_ok-judge_section.ensures in
     (keeps_at (same_system r.switch refl refl c.push.ensures) keeps, tt)

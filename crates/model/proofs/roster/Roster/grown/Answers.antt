@@ -6,8 +6,8 @@ use Rattle.model.proofs.Keeping.{keeps_at}
 use Rattle.model.proofs.Kept.{kept}
 use Rattle.model.proofs.roster.Roster.grown.Goals as goal
 
-pub invariant-of-copy : goal.invariant-of-copy
-invariant-of-copy c =
+pub invariant_of-copy : goal.invariant_of-copy
+invariant_of-copy c =
     let r = c.args.self.now in
     let m = margin c.args.percent in
     let grows = c.if-not-grows.ensures.0 refl in

@@ -6,10 +6,10 @@ use Rattle.model.proofs.roster.Roster.has_room.Goals as goal
 
 pub returns-in-None : goal.returns-in-None
 returns-in-None c =
-    let same = c.as-slice-tasks.ensures in
+    let same = c.as_slice-tasks.ensures in
     rw (← same, missed _ _ (rw same (kept c.args.self.now).rising) c.in-None.ensures) (λ _. tt, λ _. refl)
 
 pub returns-in-Some : goal.returns-in-Some
 returns-in-Some c =
-    let same = c.as-slice-tasks.ensures in
+    let same = c.as_slice-tasks.ensures in
     rw (← same, found _ _ _ (rw same (kept c.args.self.now).rising) c.in-Some.ensures) c.within.ensures

@@ -15,5 +15,5 @@ both_some tasks p (Some k) up hit = sym (ap is_some (found tasks p k up hit))
 
 pub returns : goal.returns
 returns c =
-    c.is-some.ensures
-    ∙ both_some _ _ c.find.result (kept c.args.self.now).rising (rw c.as-slice.ensures at c.find.ensures)
+    c.is_some.ensures
+    ∙ both_some _ _ c.find.result (kept c.args.self.now).rising (rw c.as_slice.ensures at c.find.ensures)

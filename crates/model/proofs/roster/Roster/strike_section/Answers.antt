@@ -4,8 +4,8 @@ use Rattle.model.proofs.Keeping.{keeps_at, keeps_section_struck, same_system}
 use Rattle.model.proofs.Kept.{kept}
 use Rattle.model.proofs.roster.Roster.strike_section.Goals as goal
 
-pub invariant-of-self : goal.invariant-of-self
-invariant-of-self c =
+pub invariant_of-self : goal.invariant_of-self
+invariant_of-self c =
     let r = c.args.self.now in
     let keeps = keeps_section_struck (of r) c.args.owner c.args.resource (kept r) in
     (keeps_at (same_system r.switch refl refl c.retain.ensures) keeps, tt)

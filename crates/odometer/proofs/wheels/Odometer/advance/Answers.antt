@@ -29,20 +29,20 @@ returns-then-self-places c =
     let next = multiple_above o.base c.args.k o.number o.some in
     record { base = refl; places = refl; number = omega arith }
 
-pub nonzero-div-self : goal.nonzero-div-self
-nonzero-div-self c =
+pub nonzero_div-self : goal.nonzero_div-self
+nonzero_div-self c =
     let o = c.args.self.now in
     rw (power_is o c.args.k c.min-cleared.result c.min-cleared.ensures) (one-le-pow c.min-cleared.result o.base o.some)
 
-pub overflow-mul-self : goal.overflow-mul-self
-overflow-mul-self c =
+pub overflow_mul-self : goal.overflow_mul-self
+overflow_mul-self c =
     let o = c.args.self.now in
     let fits = next_fits o c.args.k c.min-cleared.result c.min-cleared.ensures c.if-self-places.false in
     let end = power_small o.base o.places o.eight o.few in
     simp (power_is o c.args.k c.min-cleared.result c.min-cleared.ensures) (omega (arith, fits, end))
 
-pub invariant-of-self : goal.invariant-of-self
-invariant-of-self c =
+pub invariant_of-self : goal.invariant_of-self
+invariant_of-self c =
     let o = c.args.self.now in
     let ahead = c.forward.new.wheels in
     let rest = drop (o.places - 0) o.wheels in

@@ -13,8 +13,8 @@ stored c =
 pub loop-k-init : goal.loop-k-init
 loop-k-init c = (below_more _ 0 (below_none _) (sym (pow-zero c.args.base)), search rules)
 
-pub overflow-mul-powers : goal.overflow-mul-powers
-overflow-mul-powers c = omega (arith, stored c, power_small c.args.base c.loop-k.k c.requires (omega arith))
+pub overflow_mul-powers : goal.overflow_mul-powers
+overflow_mul-powers c = omega (arith, stored c, power_small c.args.base c.loop-k.k c.requires (omega arith))
 
 pub loop-k-preserved : goal.loop-k-preserved
 loop-k-preserved c =

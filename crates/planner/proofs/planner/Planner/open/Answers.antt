@@ -6,7 +6,7 @@ use Rattle.planner.proofs.planner.Planner.open.Goals as goal
 
 pub returns : goal.returns
 returns g c =
-    let state = same_state _ refl c.first-set.ensures.number in
+    let state = same_state _ refl c.first_set.ensures.number in
     record {
       state = state;
       led = subst (Led g.Q.Test g.C.Amount g.C.Tariff (of c.args.roster) c.args.test []) (sym state) (led_opening g.Q.Test g.C.Amount g.C.Tariff (of c.args.roster) c.args.test);

@@ -8,11 +8,11 @@ use Rattle.planner.proofs.Leading.{leads}
 use Rattle.planner.proofs.Striding.{moved}
 use Rattle.planner.proofs.planner.Planner.plan.Goals as goal
 
-pub returns-in-err-judge-allowance : goal.returns-in-err-judge-allowance
-returns-in-err-judge-allowance g c =
+pub returns-in_err-judge_allowance : goal.returns-in_err-judge_allowance
+returns-in_err-judge_allowance g c =
     let x = state c.args.self.now in
     let p = err_from_is_err_and c.from-residual.result c.from-residual.ensures.1 in
-    let happens : Happens g.Q.Test g.C.Amount g.C.Tariff x (Planned c.args.allowance (Err c.in-err-judge-allowance.field-0.0)) x = (c.in-err-judge-allowance.ensures, refl) in
+    let happens : Happens g.Q.Test g.C.Amount g.C.Tariff x (Planned c.args.allowance (Err c.in_err-judge_allowance.field-0.0)) x = (c.in_err-judge_allowance.ensures, refl) in
     let leads = leads g.Q.Test g.C.Amount g.C.Tariff g.met.Q.Test.lawful g.met.C.Amount.lawful g.met.C.Tariff.one x _ _ (kept c.args.self.now.roster) happens in
     rw (p.1, p.2) (record { happens = happens; leads = leads })
 
@@ -22,7 +22,7 @@ returns g c =
     let y = state c.walk-strides.new.self in
     let walk = c.walk-strides.ensures in
     let moves = moved g.Q.Test g.C.Amount g.C.Tariff x y c.args.allowance c.walk-strides.result c.progress.result walk.walked walk.few walk.whole c.progress.ensures.strides c.progress.ensures.settled c.progress.ensures.mark in
-    let happens : Happens g.Q.Test g.C.Amount g.C.Tariff x (Planned c.args.allowance (Ok c.progress.result)) y = (c.in-ok-judge-allowance.ensures, moves) in
+    let happens : Happens g.Q.Test g.C.Amount g.C.Tariff x (Planned c.args.allowance (Ok c.progress.result)) y = (c.in_ok-judge_allowance.ensures, moves) in
     record {
       happens = happens;
       leads = leads g.Q.Test g.C.Amount g.C.Tariff g.met.Q.Test.lawful g.met.C.Amount.lawful g.met.C.Tariff.one x _ y (kept c.args.self.now.roster) happens;

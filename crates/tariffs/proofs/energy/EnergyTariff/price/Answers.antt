@@ -3,8 +3,8 @@ use Rattle.model.proofs.Kept.{kept}
 use Rattle.tariffs.specs.Bounds.{energy_bound}
 use Rattle.tariffs.proofs.energy.EnergyTariff.price.Goals as goal
 
-pub overflow-mul-result-then-step-steps : goal.overflow-mul-result-then-step-steps
-overflow-mul-result-then-step-steps c =
+pub overflow_mul-result-then-step-steps : goal.overflow_mul-result-then-step-steps
+overflow_mul-result-then-step-steps c =
     let bound = energy_bound (kept c.args.roster.now) c.tasks-tasks.ensures c.steps-steps.ensures c.if-place-tasks.true c.if-step-steps.true in
     omega arith
 

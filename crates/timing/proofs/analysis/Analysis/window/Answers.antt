@@ -10,8 +10,8 @@ use Rattle.timing.proofs.Described.{own_is, urgent_is}
 use Rattle.timing.proofs.Limits.{loads_bounded, own_limits}
 use Rattle.timing.proofs.analysis.Analysis.window.Goals as goal
 
-pub overflow-add-self : goal.overflow-add-self
-overflow-add-self c =
+pub overflow_add-self : goal.overflow_add-self
+overflow_add-self c =
     let r = c.args.roster.now in
     let d = c.requires.describes in
     let is = own_is (of r) d.0 c.args.self.now d.3 c.args.place c.requires.place _ _ c.blocking-blocked.result c.tasks.ensures c.sections.ensures c.blocking-blocked.ensures in
