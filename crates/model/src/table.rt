@@ -1,12 +1,24 @@
 // A list of at most N items in an array of its own, so that a copy allocates nothing.
-ghost use Rattle.std.specs.Prelude.{◌≡◌, ◌≤◌, length};
+ghost use Rattle.std.specs.Prelude.{◌≡◌, ◌≤◌, length, ⊤};
+
+use std::alloc::AllocError;
 
 pub mod calls;
 
-#[derive(Clone, Copy)]
+#[derive(Copy)]
 pub struct Table<T: Copy, const N: usize> {
     items: [T; N],
     len: usize,
     ghost whole: { length items ≡ N },
     ghost within: { len ≤ N },
+}
+
+impl<T: Copy, const N: usize> Clone for Table<T, N> {
+    ghost is_clone = { λ x y. y ≡ x };
+
+    ghost is_infallible = { λ _. ⊤ };
+
+    fn clone(&self) -> Result<Table<T, N>, AllocError> {
+        Ok(*self)
+    }
 }

@@ -22,7 +22,7 @@ returns-in_err-row c =
     let ps = parts space c.args.text.now in
     let low : c.loop-place.place < length ps = omega (arith, c.requires.count, c.width-place-end.ensures) in
     let more = item_next ps (left c.loop-place.items) (left c.next_item.new.self) c.in-Some.item.now c.loop-place.place low c.loop-place.invariant.0 c.in-Some.ensures in
-    let p = err_from_is_err_and c.from-residual.result c.from-residual.ensures.1 in
+    let p = err_from_is_err_and c.from_residual.result c.from_residual.ensures.1 in
     rw (p.1, p.2)
     (row_wrong cs.block cs.order c.args.text.now c.in-Some.item.now c.loop-place.row c.loop-place.place lt more.0 c.loop-place.invariant.1
     c.args.line c.in_err-row.field-0.0 c.requires.count c.in_err-row.ensures)

@@ -10,7 +10,7 @@ overflow_mul-read c = omega (arith, few_small c.args.digits.now c.loop-b.b-index
 
 pub returns-in_err-read : goal.returns-in_err-read
 returns-in_err-read c =
-    rw c.from-residual.ensures
+    rw c.from_residual.ensures
     (λ all. c.in_err-read.ensures (digit_under c.args.digits.now c.loop-b.b-index (omega arith) all))
 
 pub overflow_add-read : goal.overflow_add-read

@@ -25,7 +25,7 @@ invariant_of-self c =
     let r = c.args.self.now in
     let tasks = replaced r c.args.task _ _ _ c.tasks.ensures c.in-Some.ensures c.alter.ensures in
     let keeps = keeps_altered (of r) c.args.task (kept r) c.in_ok-judge_alteration.ensures in
-    (keeps_at (same_system r.switch refl tasks refl) keeps, tt)
+    record { keeps = keeps_at (same_system r.switch refl tasks refl) keeps }
 
 pub returns-in-Some : goal.returns-in-Some
 returns-in-Some c =

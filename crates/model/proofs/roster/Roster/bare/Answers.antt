@@ -9,4 +9,4 @@ copy_from-requires c = (omega arith, (c.requires Count).1)
 pub invariant_of-result : goal.invariant_of-result
 invariant_of-result c =
     let same = same_system c.args.switch c.copy_from.ensures c.empty.ensures c.empty-2.ensures in
-    (keeps_at same (keeps_loaded c.args.steps.now c.args.switch c.requires), tt)
+    record { keeps = keeps_at same (keeps_loaded c.args.steps.now c.args.switch c.requires) }

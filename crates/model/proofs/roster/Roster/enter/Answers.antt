@@ -35,7 +35,7 @@ invariant_of-self c =
     let r = c.args.self.now in
     let rule = c.in_ok-judge_entry.ensures in
     let tasks = joined r c.args.task _ _ _ c.tasks.ensures c.rank-at.ensures c.insert.ensures rule in
-    (keeps_at (same_system r.switch refl tasks refl) (keeps_entered (of r) c.args.task (kept r) rule), tt)
+    record { keeps = keeps_at (same_system r.switch refl tasks refl) (keeps_entered (of r) c.args.task (kept r) rule) }
 
 pub returns : goal.returns
 returns c =

@@ -12,4 +12,4 @@ pub invariant_of-self : goal.invariant_of-self
 invariant_of-self c =
     let r = c.args.self.now in
     let keeps = keeps_section_entered (of r) c.args.section (kept r) c.in_ok-judge_section.ensures in
-    (keeps_at (same_system r.switch refl refl c.push.ensures) keeps, tt)
+    record { keeps = keeps_at (same_system r.switch refl refl c.push.ensures) keeps }

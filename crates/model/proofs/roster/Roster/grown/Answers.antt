@@ -11,7 +11,7 @@ invariant_of-copy c =
     let r = c.args.self.now in
     let m = margin c.args.percent in
     let grows = c.if-not-grows.ensures.0 refl in
-    (keeps_at (capped_grown m (of r) grows c.apply.ensures c.apply-2.ensures) (keeps_grown m (of r) (kept r) grows), tt)
+    record { keeps = keeps_at (capped_grown m (of r) grows c.apply.ensures c.apply-2.ensures) (keeps_grown m (of r) (kept r) grows) }
 
 pub returns : goal.returns
 returns c =

@@ -7,4 +7,4 @@ use Rattle.model.proofs.roster.Roster.strike.Goals as goal
 pub invariant_of-self : goal.invariant_of-self
 invariant_of-self c =
     let r = c.args.self.now in
-    (keeps_at (same_system r.switch refl c.retain.ensures c.retain-2.ensures) (keeps_struck (of r) c.args.priority (kept r)), tt)
+    record { keeps = keeps_at (same_system r.switch refl c.retain.ensures c.retain-2.ensures) (keeps_struck (of r) c.args.priority (kept r)) }

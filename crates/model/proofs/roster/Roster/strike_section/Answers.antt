@@ -8,4 +8,4 @@ pub invariant_of-self : goal.invariant_of-self
 invariant_of-self c =
     let r = c.args.self.now in
     let keeps = keeps_section_struck (of r) c.args.owner c.args.resource (kept r) in
-    (keeps_at (same_system r.switch refl refl c.retain.ensures) keeps, tt)
+    record { keeps = keeps_at (same_system r.switch refl refl c.retain.ensures) keeps }

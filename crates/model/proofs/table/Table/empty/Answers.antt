@@ -4,4 +4,4 @@ use Rattle.std.proofs.lemmas.List.{length-replicate}
 use Rattle.model.proofs.table.Table.empty.Goals as goal
 
 pub invariant_of-result : goal.invariant_of-result
-invariant_of-result g c = (length-replicate g.row.N c.args.filler, (search rules, tt))
+invariant_of-result g c = record { whole = length-replicate g.row.N c.args.filler; within = search rules }
