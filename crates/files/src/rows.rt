@@ -107,7 +107,7 @@ pub(crate) fn read_columns(block: Block, line: Line) -> Result<Columns, Fault>
 fn is_dash(item: &[u8]) -> bool
     ensures { Decides result (item.now ≡ 45 ∷ []) }
 {
-    item == b"-"
+    item == b"-".as_slice()
 }
 
 // Reads an item of a column; `line` and `place` say where it stands.

@@ -24,7 +24,7 @@ pub struct Entry<C> {
 // Carries a call out, and tells what the planner tells after it.
 fn record_call<Q: Test, C: Tariff>(planner: &mut Planner<Q, C>, call: Call) -> Entry<C>
     ensures call { call_of result.event ≡ call }
-    ensures leads { Leads (Q.Test) (C.Amount) (C.Tariff) (state planner.old) result.event (state planner.new) }
+    ensures leads { Leads (Q.Test) (C.Amount) (C.Tariff.own) (state planner.old) result.event (state planner.new) }
     ensures told { told_by result.findings ≡ told (state planner.new) }
     ensures steps { Named (state planner.new).stands result.findings }
 {
@@ -42,7 +42,7 @@ pub fn replay<Q: Test + Drop, C: Tariff>(
     test: Q,
     calls: &[Call],
 ) -> Result<Vec<Entry<C>>, AllocError>
-    ensures { IfOk result (λ entries. Recorded (Q.Test) (C.Amount) (C.Tariff) (of roster) test calls.now entries.items) }
+    ensures { IfOk result (λ entries. Recorded (Q.Test) (C.Amount) (C.Tariff.own) (of roster) test calls.now entries.items) }
 {
     let mut entries = Vec::with_capacity(heap, calls.len())?;
     let mut planner = Planner::<Q, C>::open(roster, test);

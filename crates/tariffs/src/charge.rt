@@ -8,7 +8,7 @@ use model::roster::Roster;
 
 // Joins the prices of all tasks from zero, in priority order; a place that the list lacks adds nothing.
 pub fn charge<C: Tariff>(roster: &Roster, set: &[u8]) -> C
-    ensures { result ≡ charge_of (C.Amount) (C.Tariff) (of roster.now) set.now }
+    ensures { result ≡ charge_of (C.Amount) (C.Tariff.own) (of roster.now) set.now }
 {
     let mut sum = C::zero();
     for (place, (_, step)) in roster.tasks().iter().zip(set).enumerate() {

@@ -1,5 +1,6 @@
 // What a set of steps costs.
 #![tactic(auto)]
+
 pub mod amount;
 pub mod charge;
 pub mod energy;

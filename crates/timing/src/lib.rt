@@ -1,5 +1,6 @@
 // Times and response windows of a roster's tasks.
 #![tactic(auto)]
+
 mod analysis;
 mod demand;
 mod holds;

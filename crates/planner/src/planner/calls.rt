@@ -40,7 +40,7 @@ impl<Q: Test, C: Tariff> Planner<Q, C> {
     // Takes the roster and the test over; the tariff is a type.
     pub fn open(roster: Roster, test: Q) -> Planner<Q, C>
         ensures state { state result ≡ opened (of roster) test }
-        ensures led { Led (Q.Test) (C.Amount) (C.Tariff) (of roster) test [] (state result) }
+        ensures led { Led (Q.Test) (C.Amount) (C.Tariff.own) (of roster) test [] (state result) }
     {
         Planner {
             roster,
@@ -51,54 +51,54 @@ impl<Q: Test, C: Tariff> Planner<Q, C> {
     }
 
     pub fn enter(&mut self, task: Task) -> Result<(), RosterRefusal>
-        ensures happens { Happens (Q.Test) (C.Amount) (C.Tariff) (state self.old) (Changed (Enter task) result) (state self.new) }
-        ensures leads { Leads (Q.Test) (C.Amount) (C.Tariff) (state self.old) (Changed (Enter task) result) (state self.new) }
+        ensures happens { Happens (Q.Test) (C.Amount) (C.Tariff.own) (state self.old) (Changed (Enter task) result) (state self.new) }
+        ensures leads { Leads (Q.Test) (C.Amount) (C.Tariff.own) (state self.old) (Changed (Enter task) result) (state self.new) }
     {
         self.change(Change::Enter(task))
     }
 
     // Rewrites the task of that priority, and no other.
     pub fn alter(&mut self, task: Task) -> Result<(), RosterRefusal>
-        ensures happens { Happens (Q.Test) (C.Amount) (C.Tariff) (state self.old) (Changed (Alter task) result) (state self.new) }
-        ensures leads { Leads (Q.Test) (C.Amount) (C.Tariff) (state self.old) (Changed (Alter task) result) (state self.new) }
+        ensures happens { Happens (Q.Test) (C.Amount) (C.Tariff.own) (state self.old) (Changed (Alter task) result) (state self.new) }
+        ensures leads { Leads (Q.Test) (C.Amount) (C.Tariff.own) (state self.old) (Changed (Alter task) result) (state self.new) }
     {
         self.change(Change::Alter(task))
     }
 
     // Removes a task with its sections.
     pub fn strike(&mut self, priority: u32) -> Result<(), RosterRefusal>
-        ensures happens { Happens (Q.Test) (C.Amount) (C.Tariff) (state self.old) (Changed (Strike priority) result) (state self.new) }
-        ensures leads { Leads (Q.Test) (C.Amount) (C.Tariff) (state self.old) (Changed (Strike priority) result) (state self.new) }
+        ensures happens { Happens (Q.Test) (C.Amount) (C.Tariff.own) (state self.old) (Changed (Strike priority) result) (state self.new) }
+        ensures leads { Leads (Q.Test) (C.Amount) (C.Tariff.own) (state self.old) (Changed (Strike priority) result) (state self.new) }
     {
         self.change(Change::Strike(priority))
     }
 
     pub fn enter_section(&mut self, section: Section) -> Result<(), RosterRefusal>
-        ensures happens { Happens (Q.Test) (C.Amount) (C.Tariff) (state self.old) (Changed (EnterSection section) result) (state self.new) }
-        ensures leads { Leads (Q.Test) (C.Amount) (C.Tariff) (state self.old) (Changed (EnterSection section) result) (state self.new) }
+        ensures happens { Happens (Q.Test) (C.Amount) (C.Tariff.own) (state self.old) (Changed (EnterSection section) result) (state self.new) }
+        ensures leads { Leads (Q.Test) (C.Amount) (C.Tariff.own) (state self.old) (Changed (EnterSection section) result) (state self.new) }
     {
         self.change(Change::EnterSection(section))
     }
 
     pub fn strike_section(&mut self, owner: u32, resource: u32) -> Result<(), RosterRefusal>
-        ensures happens { Happens (Q.Test) (C.Amount) (C.Tariff) (state self.old) (Changed (StrikeSection owner resource) result) (state self.new) }
-        ensures leads { Leads (Q.Test) (C.Amount) (C.Tariff) (state self.old) (Changed (StrikeSection owner resource) result) (state self.new) }
+        ensures happens { Happens (Q.Test) (C.Amount) (C.Tariff.own) (state self.old) (Changed (StrikeSection owner resource) result) (state self.new) }
+        ensures leads { Leads (Q.Test) (C.Amount) (C.Tariff.own) (state self.old) (Changed (StrikeSection owner resource) result) (state self.new) }
     {
         self.change(Change::StrikeSection(owner, resource))
     }
 
     // An accepted change starts the search again.
     pub fn change(&mut self, change: Change) -> Result<(), RosterRefusal>
-        ensures happens { Happens (Q.Test) (C.Amount) (C.Tariff) (state self.old) (Changed change result) (state self.new) }
-        ensures leads { Leads (Q.Test) (C.Amount) (C.Tariff) (state self.old) (Changed change result) (state self.new) }
+        ensures happens { Happens (Q.Test) (C.Amount) (C.Tariff.own) (state self.old) (Changed change result) (state self.new) }
+        ensures leads { Leads (Q.Test) (C.Amount) (C.Tariff.own) (state self.old) (Changed change result) (state self.new) }
     {
         self.restart_with(change)
     }
 
     // Goes on with the search, by at most so many strides as allowed.
     pub fn plan(&mut self, allowance: u32) -> Result<Progress, SearchRefusal>
-        ensures happens { Happens (Q.Test) (C.Amount) (C.Tariff) (state self.old) (Planned allowance result) (state self.new) }
-        ensures leads { Leads (Q.Test) (C.Amount) (C.Tariff) (state self.old) (Planned allowance result) (state self.new) }
+        ensures happens { Happens (Q.Test) (C.Amount) (C.Tariff.own) (state self.old) (Planned allowance result) (state self.new) }
+        ensures leads { Leads (Q.Test) (C.Amount) (C.Tariff.own) (state self.old) (Planned allowance result) (state self.new) }
     {
         judge_allowance(allowance)?;
         let strides = self.walk(allowance);
@@ -108,8 +108,8 @@ impl<Q: Test, C: Tariff> Planner<Q, C> {
     // Carries out a call as the program has it at hand.
     pub fn carry_out(&mut self, call: Call) -> Event
         ensures call { call_of result ≡ call }
-        ensures happens { Happens (Q.Test) (C.Amount) (C.Tariff) (state self.old) result (state self.new) }
-        ensures leads { Leads (Q.Test) (C.Amount) (C.Tariff) (state self.old) result (state self.new) }
+        ensures happens { Happens (Q.Test) (C.Amount) (C.Tariff.own) (state self.old) result (state self.new) }
+        ensures leads { Leads (Q.Test) (C.Amount) (C.Tariff.own) (state self.old) result (state self.new) }
     {
         match call {
             Call::Change(change) => Event::Changed(change, self.change(change)),
@@ -120,7 +120,7 @@ impl<Q: Test, C: Tariff> Planner<Q, C> {
     // Writes the steps of the shown set into a list, one for each task.
     pub fn show(&self, list: &mut [u8]) -> Result<(), SearchRefusal>
         ensures outcome { Outcome search_number (ShowRule (state self.now) list.old) list.old (written (state self.now).stands (state self.now).search.shown list.old) list.new result }
-        ensures claim { (opening : System) (test : Q) (events : List Happening) → Led (Q.Test) (C.Amount) (C.Tariff) opening test events (state self.now) → Seen (Q.Test) (C.Amount) (C.Tariff) opening test events list.new result }
+        ensures claim { (opening : System) (test : Q) (events : List Happening) → Led (Q.Test) (C.Amount) (C.Tariff.own) opening test events (state self.now) → Seen (Q.Test) (C.Amount) (C.Tariff.own) opening test events list.new result }
     {
         let tasks = self.roster.tasks().len();
         if list.len() < tasks {
@@ -139,7 +139,7 @@ impl<Q: Test + Drop, C: Tariff> Planner<Q, C> {
     pub fn close(self) -> Findings<C>
         ensures told { told_by result ≡ told (state self) }
         ensures steps { Named (state self).stands result }
-        ensures claim { (opening : System) (test : Q) (events : List Happening) → Led (Q.Test) (C.Amount) (C.Tariff) opening test events (state self) → Claim (Q.Test) (C.Amount) (C.Tariff) opening test events (told_by result) }
+        ensures claim { (opening : System) (test : Q) (events : List Happening) → Led (Q.Test) (C.Amount) (C.Tariff.own) opening test events (state self) → Claim (Q.Test) (C.Amount) (C.Tariff.own) opening test events (told_by result) }
     {
         self.findings()
     }

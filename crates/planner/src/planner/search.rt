@@ -82,7 +82,7 @@ impl<Q: Test, C: Tariff> Planner<Q, C> {
 
     // The set that is next, with its charge.
     fn next_set(&self) -> Shown<C>
-        ensures found { found result ≡ looked_at (problem (Q.Test) (C.Amount) (C.Tariff) (state self.now).stands (state self.now).test) (state self.now).search.settled }
+        ensures found { found result ≡ looked_at (problem (Q.Test) (C.Amount) (C.Tariff.own) (state self.now).stands (state self.now).test) (state self.now).search.settled }
         ensures base { result.at.base ≡ self.now.sets.base }
         ensures places { result.at.places ≡ self.now.sets.places }
     {
@@ -95,7 +95,7 @@ impl<Q: Test, C: Tariff> Planner<Q, C> {
     // Looks at one set, and goes on to the next that is not settled by it: whatever walk led here is one stride longer.
     fn stride(&mut self)
         requires { self.old.sets.number < sets_of (state self.old).stands }
-        ensures { (x : State Q C) (n : ℕ) → Walked (Q.Test) (C.Amount) (C.Tariff) x n (state self.old) → Walked (Q.Test) (C.Amount) (C.Tariff) x (n + 1) (state self.new) }
+        ensures { (x : State Q C) (n : ℕ) → Walked (Q.Test) (C.Amount) (C.Tariff.own) x n (state self.old) → Walked (Q.Test) (C.Amount) (C.Tariff.own) x (n + 1) (state self.new) }
     {
         if self.next_passes() {
             self.shown = Some(cheaper(self.shown, self.next_set()));
@@ -114,7 +114,7 @@ impl<Q: Test, C: Tariff> Planner<Q, C> {
 
     // Strides until all sets are settled, at most so many times; gives how many it made.
     pub(super) fn walk(&mut self, allowance: u32) -> u32
-        ensures walked { Walked (Q.Test) (C.Amount) (C.Tariff) (state self.old) result (state self.new) }
+        ensures walked { Walked (Q.Test) (C.Amount) (C.Tariff.own) (state self.old) result (state self.new) }
         ensures few { result ≤ allowance }
         ensures whole { result < allowance → (state self.new).search.settled ≡ sets_of (state self.new).stands }
     {

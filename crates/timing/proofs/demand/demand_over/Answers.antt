@@ -23,7 +23,7 @@ overflow_add-total c =
       arith,
       loop-load-preserved c,
       sum_by-take-le (interference c.args.w) c.args.urgent.now (c.loop-load.load-index + 1),
-      demand_fits _ _ _ c.requires.own_val c.requires.few c.requires.bounded c.requires.short,
+      demand_fits _ _ _ c.requires.own c.requires.few c.requires.bounded c.requires.short,
     )
 
 pub returns : goal.returns

@@ -11,5 +11,5 @@ returns c =
       under =
           under_start _ _ _ _ c.requires.positive (omega arith) (omega arith) (omega arith)
           (λ w. demand_shares _ _ w c.requires.bounded);
-      fits = omega (arith, up_within (c.args.own_val * scale) c.max-spare.result (omega arith));
+      fits = omega (arith, up_within (c.args.own * scale) c.max-spare.result (omega arith));
     })
