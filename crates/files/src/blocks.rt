@@ -1,6 +1,6 @@
 // The four blocks of a roster file.
 ghost use Rattle.std.specs.Prelude.{◌≡◌, ℕ, ◌<◌, Decides, MatchOption, ◌≢◌};
-ghost use Rattle.files.specs.Blocks.{width, name_of, may-lack};
+ghost use Rattle.files.specs.Blocks.{width, name_of, may_lack as may_lack_of};
 ghost use Rattle.files.specs.declared.blocks.Block.TheVariants as blocks;
 
 #[derive(Clone, Copy, PartialEq, Eq, Debug)]
@@ -97,7 +97,7 @@ impl Block {
 
     // Whether a column may hold `-`.
     pub fn may_lack(self, column: usize) -> bool
-        ensures { result ≡ may-lack self column }
+        ensures { result ≡ may_lack_of self column }
     {
         match self {
             Block::Tasks => column == 5,

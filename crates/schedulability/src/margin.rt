@@ -1,5 +1,5 @@
 // A test under a margin.
-ghost use Rattle.model.specs.Growth.{Grows, grown, margin as margin_of, margin};
+ghost use Rattle.model.specs.Growth.{Grows, grown, margin as margin_of};
 ghost use Rattle.model.proofs.Growing.{keeps_grown};
 ghost use Rattle.schedulability.specs.Growths.{isset_grown};
 
@@ -19,9 +19,9 @@ impl<T: Test> Test for Margin<T> {
 
     ghost lawful = { let below = T.Test.lawful in
         record {
-          sets = λ t s set passes. isset_grown (margin t.percent) s set (below.sets t.below (grown (margin t.percent) s) set passes.1);
+          sets = λ t s set passes. isset_grown (margin_of t.percent) s set (below.sets t.below (grown (margin_of t.percent) s) set passes.1);
           faster = λ t s fast slow k faster passes.
-              (passes.0, below.faster t.below (grown (margin t.percent) s) fast slow (keeps_grown (margin t.percent) s k passes.0) faster passes.1);
+              (passes.0, below.faster t.below (grown (margin_of t.percent) s) fast slow (keeps_grown (margin_of t.percent) s k passes.0) faster passes.1);
         } };
 
     fn ask(&self, roster: &Roster, list: &[u8]) -> bool {

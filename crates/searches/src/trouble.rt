@@ -4,7 +4,7 @@ use planner::refusals::SearchRefusal;
 use std::alloc::AllocError;
 use std::io;
 
-#[derive(Drop)]
+#[derive(Debug, Drop)]
 pub enum Trouble {
     Steps(StepsRefusal),
     Roster(RosterRefusal),

@@ -1,5 +1,6 @@
 // Prints what the library says of a sample of two tasks under each of its nine sets, and then a refusal.
 #![tactic(auto)]
+
 mod trouble;
 
 use model::kinds::{Section, Step, Task};

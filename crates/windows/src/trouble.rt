@@ -2,7 +2,7 @@
 use model::refusals::{CallRefusal, RosterRefusal, StepsRefusal};
 use std::io;
 
-#[derive(Drop)]
+#[derive(Debug, Drop)]
 pub enum Trouble {
     Steps(StepsRefusal),
     Roster(RosterRefusal),

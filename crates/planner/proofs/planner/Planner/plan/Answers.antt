@@ -11,7 +11,7 @@ use Rattle.planner.proofs.planner.Planner.plan.Goals as goal
 pub returns-in_err-judge_allowance : goal.returns-in_err-judge_allowance
 returns-in_err-judge_allowance g c =
     let x = state c.args.self.now in
-    let p = err_from_is_err_and c.from-residual.result c.from-residual.ensures.1 in
+    let p = err_from_is_err_and c.from_residual.result c.from_residual.ensures.1 in
     let happens : Happens g.Q.Test g.C.Amount g.C.Tariff x (Planned c.args.allowance (Err c.in_err-judge_allowance.field-0.0)) x = (c.in_err-judge_allowance.ensures, refl) in
     let leads = leads g.Q.Test g.C.Amount g.C.Tariff g.met.Q.Test.lawful g.met.C.Amount.lawful g.met.C.Tariff.one x _ _ (kept c.args.self.now.roster) happens in
     rw (p.1, p.2) (record { happens = happens; leads = leads })
