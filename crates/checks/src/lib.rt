@@ -1,5 +1,6 @@
 // Examples at the limits of the rules, run against the library. The crate has nothing but its tests.
 #![tactic(auto)]
+
 #[cfg(test)]
 mod charges;
 #[cfg(test)]

@@ -19,8 +19,8 @@ fn after_failure(number: u64) -> u64 {
 #[test]
 fn most_urgent_task_first(rt: HostRuntime) {
     assert_eq!(rt; nine_sets(0).total(), 9);
-    assert!(rt; nine_sets(5).digits() == &[1u8, 2]);
-    assert!(rt; nine_sets(6).digits() == &[2u8, 0]);
+    assert!(rt; nine_sets(5).digits() == [1u8, 2].as_slice());
+    assert!(rt; nine_sets(6).digits() == [2u8, 0].as_slice());
     assert_eq!(rt; nine_sets(6).zeros(), 1);
 }
 

@@ -1,5 +1,6 @@
 // Prints two searches for the cheapest set of a sample.
 #![tactic(auto)]
+
 mod sample;
 mod search;
 mod trouble;
