@@ -1,7 +1,7 @@
 -- Each accepted call leaves a roster that keeps the rules.
-use Rattle.std.proofs.Common.{◌≡◌, ℕ, ◌+◌, ◌<◌, ◌≤◌, true, false, cond, not, eqb, ltb, List, [], ◌∷◌, ◌++◌, map, length, take, drop, is_some, IfSome, Some, None, filter, Option, sym, refl, ap, ◌∙◌, arith, MatchOption}
+use Rattle.std.proofs.Common.{◌≡◌, ℕ, ◌+◌, ◌<◌, ◌≤◌, true, false, eqb, List, [], ◌∷◌, ◌++◌, map, length, take, drop, is_some, IfSome, Some, None, filter, Option, sym, refl, ap, ◌∙◌, arith, MatchOption}
 use Rattle.std.specs.Option.{option_map}
-use Rattle.std.specs.List.{insert, AllByRecursion as All}
+use Rattle.std.specs.List.{AllByRecursion as All}
 use Rattle.std.proofs.lemmas.List.Edits.{length-insert}
 use Rattle.std.proofs.ByRecursion.{All-append, all_kept_by, All-map, All-push, All-weaker, kept_by_passes}
 use Rattle.std.proofs.lemmas.List.{length-map, length_push, take-append-drop}
@@ -14,7 +14,7 @@ use Rattle.model.specs.declared.refusals.StepsRefusal.TheVariants.{Count, Range,
 use Rattle.model.specs.declared.refusals.RosterRefusal.TheVariants.{Bound, Deadline, Floor, Taken, Absent, TasksFull, Overlong, SectionTaken, SectionsFull}
 use Rattle.model.specs.Bounds.{max_sections}
 use Rattle.model.specs.Calls.{LoadRule, loaded, EnterRule, joined_by, entered, AlterRule, replaced_by, altered, struck, SectionRule, section_entered, section_struck}
-use Rattle.model.specs.Lists.{Pairwise, first_by}
+use Rattle.model.specs.Lists.{Pairwise}
 use Rattle.model.specs.Lookup.{rank}
 use Rattle.model.specs.Records.{TaskBounded, Ordered, FloorFits, MoreUrgent, has_priority, before, after, SectionBounded, Within, TakesIn, held_on, Apart, other_priority, other_owner, other_section}
 use Rattle.model.specs.Refusals.{AllKept}

@@ -5,8 +5,6 @@ use mathlib.Core.HLevel.{⊥_prop, Unit-prop}
 use mathlib.Core.Logic.{∥∥₁_elim}
 use native.Mathlib.Bridge.{le_prop}
 use Rattle.std.specs.List.{AllByRecursion as All}
-use Rattle.model.specs.declared.kinds.Task.{Task}
-use Rattle.model.specs.declared.kinds.Section.{Section}
 use Rattle.model.specs.declared.roster.Roster.{Roster}
 use Rattle.model.specs.Lists.{Pairwise}
 use Rattle.model.specs.Records.{InRange, Above, TaskBounded, Ordered, SectionBounded, held_on, Apart}

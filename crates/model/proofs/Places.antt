@@ -1,5 +1,5 @@
 -- What the place of a priority means in a list of rising priorities.
-use Rattle.std.proofs.Common.{◌≡◌, ℕ, ◌<◌, ◌≤◌, false, eqb, ltb, List, [], ◌∷◌, map, get_or, take, drop, set, filter, sym, refl, ap, ⊎_elim, one-add, arith}
+use Rattle.std.proofs.Common.{◌≡◌, ℕ, ◌<◌, ◌≤◌, false, List, [], ◌∷◌, map, get_or, take, drop, set, filter, sym, refl, ap, ⊎_elim, one-add, arith}
 use Rattle.std.specs.List.{insert, AllByRecursion as All}
 use Rattle.std.proofs.ByRecursion.{All-weaker}
 use Rattle.std.proofs.lemmas.Bool.{cases_order, lt-ltb, le-ltb, eq-eqb, ne_eqb, eqb-false}

@@ -2,7 +2,7 @@
 use Rattle.std.proofs.Common.{◌≡◌, ℕ, ◌≤◌, true, ◌⊎◌}
 use Rattle.std.specs.List.{AllZip}
 use Rattle.odometer.specs.Digits.{digits}
-use Rattle.planner.specs.Search.{Problem, sets}
+use Rattle.planner.specs.Search.{Problem}
 
 -- the charges of any two sets compare, and where a set passes, every set at least as fast passes too
 pub record Orderly {C : Type 0} (p : Problem C) : Type 0 where

@@ -13,7 +13,7 @@ use Rattle.tariffs.specs.declared.amount.Amount as amounts
 use Rattle.tariffs.specs.declared.tariff.Tariff as tariffs
 use Rattle.timing.specs.Times.{front}
 use Rattle.planner.specs.declared.events.Event.{Event}
-use Rattle.planner.specs.Calls.{ShowRule, written}
+use Rattle.planner.specs.Calls.{ShowRule}
 use Rattle.planner.specs.Claim.{Led, posed}
 use Rattle.planner.specs.Events.{standing, settled_by}
 use Rattle.planner.specs.Search.{Found, Cheapest}

@@ -9,7 +9,7 @@ use Rattle.model.specs.Rewrite.{blank_task}
 use Rattle.model.specs.System.{System}
 use Rattle.timing.specs.declared.analysis.Analysis.{Analysis}
 use Rattle.timing.specs.Analysis.{Describes}
-use Rattle.timing.specs.Times.{blocking, holds, loads}
+use Rattle.timing.specs.Times.{blocking, loads}
 use Rattle.timing.specs.Windows.{idle, own}
 
 -- `&xs[0..n]` as the checker reads it

@@ -5,7 +5,7 @@ use Rattle.std.proofs.lemmas.Slice.Zip.{length-zip}
 use Rattle.model.specs.Of.{of}
 use Rattle.model.proofs.Kept.{kept}
 use Rattle.timing.specs.Times.{front}
-use Rattle.schedulability.specs.Density.{part, whole}
+use Rattle.schedulability.specs.Density.{part}
 use Rattle.schedulability.specs.Parts.{part_next, part_small, step_in, task_bounded}
 use Rattle.schedulability.proofs.density.needed.Goals as goal
 

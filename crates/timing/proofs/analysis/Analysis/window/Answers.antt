@@ -1,4 +1,4 @@
-use Rattle.std.proofs.Common.{length, arith, length-take}
+use Rattle.std.proofs.Common.{arith, length-take}
 use Rattle.std.proofs.ByRecursion.{All-get_or, All-take}
 use Rattle.model.specs.Of.{of}
 use Rattle.model.specs.Records.{Ordered, TaskBounded}
