@@ -1,6 +1,6 @@
 -- Lines of names: their items, and how one more of them is read.
 use Rattle.std.proofs.Common.{◌≡◌, ℕ, zero, suc, ◌+◌, ◌-◌, ◌<◌, ◌≤◌, cond, List, [], ◌∷◌, ◌++◌, map, length, get_or, take, drop, set, sym, refl, ap, ◌∙◌, subst, inl, inr, arith}
-use Rattle.std.specs.List.{AllByRecursion as All}
+use Rattle.std.specs.List.{AllByRecursion}
 use Rattle.std.specs.Str.{bytes_eq}
 use Rattle.std.proofs.ByRecursion.{All-from_get_or, All-get_or, All-map, All-push, All-weaker}
 use Rattle.std.proofs.lemmas.List.{drop_more, get_or_default, get_or-map, get_or-take, length-drop, length-map, length_push, map_push, take_all, take_more, take_more_set}
@@ -67,7 +67,7 @@ width_few Tasks = omega arith
 width_few Sections = omega arith
 
 -- no name has a space
-names_free : (b : Block) → All (Free space) (names b)
+names_free : (b : Block) → AllByRecursion (Free space) (names b)
 names_free Switch = parts_free space (joined space (names Switch))
 names_free Steps = parts_free space (joined space (names Steps))
 names_free Tasks = parts_free space (joined space (names Tasks))
@@ -103,7 +103,7 @@ module _ (b : Block) (order text : List ℕ) (is : Names b order text) where
 -- the first items name these columns
 pub record Named (b : Block) (seen : List ℕ) (items : List (List ℕ)) (i : ℕ) : Type 0 where
   pub whole : length seen ≡ i
-  pub below : All (λ k. k < width b) seen
+  pub below : AllByRecursion (λ k. k < width b) seen
   pub once : Pairwise Apart seen
   pub named : map (name_of b) seen ≡ take i items
 

@@ -1,6 +1,6 @@
 -- A line of names and a line of values, as they are written, and what is wrong with one that is neither.
 use Rattle.std.specs.Prelude.{◌≡◌, ℕ, ◌+◌, ◌<◌, true, ◌⊎◌, List, [], ◌∷◌, map, length, Some, None, decimal, Option, ◌≢◌, slice_index, slice_index_or}
-use Rattle.std.specs.List.{AllByRecursion as All}
+use Rattle.std.specs.List.{AllByRecursion}
 use Rattle.model.specs.Lists.{Pairwise}
 use Rattle.text.specs.Lines.{space, parts, joined}
 use Rattle.text.specs.Values.{values}
@@ -13,7 +13,7 @@ use Rattle.files.specs.Faults.{at_line, at_item}
 -- an order of n columns: each of them once
 pub record IsOrder (n : ℕ) (order : List ℕ) : Type 0 where
   pub whole : length order ≡ n
-  pub below : All (λ k. k < n) order
+  pub below : AllByRecursion (λ k. k < n) order
   pub once : Pairwise (λ j k. j ≢ k) order
 
 -- a line names the columns of a block in an order

@@ -1,7 +1,7 @@
 -- A grown system keeps the rules, and where it fits its bounds the cap does not show.
 use Rattle.std.proofs.Common.{◌≡◌, ℕ, ◌+◌, ◌*◌, ◌≤◌, Bool, true, leb, List, map, length, Some, None, Decides, Option, refl, ◌∙◌, mul-le-mul_right, mul-add, arith, MatchOption}
 use Rattle.std.specs.Option.{option_map}
-use Rattle.std.specs.List.{AllByRecursion as All}
+use Rattle.std.specs.List.{AllByRecursion}
 use Rattle.std.proofs.ByRecursion.{All-map, All-weaker}
 use Rattle.std.proofs.lemmas.List.{length-map}
 use Rattle.std.proofs.lemmas.Bool.{le-leb, leb-true}
@@ -68,7 +68,7 @@ capped_grown m s g tasks sections =
     (sections ∙ map_same _ (capped_section m) (grown_section m) (λ c fits. rw (capped_is m c.cycles fits)) s.sections g.sections)
 
 -- a test of the bound at each item decides the rule
-pub decides_bound : {X : Type 0} (m : ℕ) (cycles : X → ℕ) (xs : List X) (r : Bool) → Decides r (All (λ x. leb (grown_cycles m (cycles x)) max_cycles ≡ true) xs) → Decides r (All (λ x. grown_cycles m (cycles x) ≤ max_cycles) xs)
+pub decides_bound : {X : Type 0} (m : ℕ) (cycles : X → ℕ) (xs : List X) (r : Bool) → Decides r (AllByRecursion (λ x. leb (grown_cycles m (cycles x)) max_cycles ≡ true) xs) → Decides r (AllByRecursion (λ x. grown_cycles m (cycles x) ≤ max_cycles) xs)
 decides_bound m cycles xs r h =
     Decides-like r
     (All-weaker _ _ (λ x e. leb-true (grown_cycles m (cycles x)) max_cycles e) xs)

@@ -1,7 +1,7 @@
 -- Each accepted call leaves a roster that keeps the rules.
 use Rattle.std.proofs.Common.{◌≡◌, ℕ, ◌+◌, ◌<◌, ◌≤◌, true, false, eqb, List, [], ◌∷◌, ◌++◌, map, length, take, drop, is_some, IfSome, Some, None, filter, Option, sym, refl, ap, ◌∙◌, arith, MatchOption}
 use Rattle.std.specs.Option.{option_map}
-use Rattle.std.specs.List.{AllByRecursion as All}
+use Rattle.std.specs.List.{AllByRecursion}
 use Rattle.std.proofs.lemmas.List.Edits.{length-insert}
 use Rattle.std.proofs.ByRecursion.{All-append, all_kept_by, All-map, All-push, All-weaker, kept_by_passes}
 use Rattle.std.proofs.lemmas.List.{length-map, length_push, take-append-drop}
@@ -49,7 +49,7 @@ keeps_at e k = rw e (∣ k ∣₁)
 
 -- ---- entering a task
 
-all_joined : (P : Task → Type 0) (t : Task) (tasks : List Task) → P t → All P tasks → All P (joined_by t tasks)
+all_joined : (P : Task → Type 0) (t : Task) (tasks : List Task) → P t → AllByRecursion P tasks → AllByRecursion P (joined_by t tasks)
 all_joined P t tasks new old =
     All-append P (filter (before t.priority) tasks) (t ∷ filter (after t.priority) tasks) (all_kept_by (before t.priority) P tasks old) (new, all_kept_by (after t.priority) P tasks old)
 
@@ -58,13 +58,13 @@ rising_joined t tasks rising =
     let p = t.priority in
     let low = filter (before p) tasks in
     let high = filter (after p) tasks in
-    let above : All (λ u. p < u.priority) high = All-weaker (λ u. after p u ≡ true) (λ u. p < u.priority) (λ u e. ltb-true p u.priority e) high (kept_by_passes (after p) tasks) in
-    let across : All (λ u. All (MoreUrgent u) (t ∷ high)) low =
-    All-weaker (λ u. before p u ≡ true) (λ u. All (MoreUrgent u) (t ∷ high)) (λ u e. (ltb-true u.priority p e, All-weaker (λ v. p < v.priority) (MoreUrgent u) (λ v h. omega (arith, ltb-true u.priority p e)) high above)) low (kept_by_passes (before p) tasks) in
+    let above : AllByRecursion (λ u. p < u.priority) high = All-weaker (λ u. after p u ≡ true) (λ u. p < u.priority) (λ u e. ltb-true p u.priority e) high (kept_by_passes (after p) tasks) in
+    let across : AllByRecursion (λ u. AllByRecursion (MoreUrgent u) (t ∷ high)) low =
+    All-weaker (λ u. before p u ≡ true) (λ u. AllByRecursion (MoreUrgent u) (t ∷ high)) (λ u e. (ltb-true u.priority p e, All-weaker (λ v. p < v.priority) (MoreUrgent u) (λ v h. omega (arith, ltb-true u.priority p e)) high above)) low (kept_by_passes (before p) tasks) in
     pairwise_append MoreUrgent low (t ∷ high) (pairwise_kept_by MoreUrgent (before p) tasks rising) (above, pairwise_kept_by MoreUrgent (after p) tasks rising) across
 
 -- a section keeps its owner when another task joins
-owned_joined : (t : Task) (tasks : List Task) → Pairwise MoreUrgent tasks → All (λ u. has_priority t.priority u ≡ false) tasks → (c : Section) → Owned tasks c → Owned (joined_by t tasks) c
+owned_joined : (t : Task) (tasks : List Task) → Pairwise MoreUrgent tasks → AllByRecursion (λ u. has_priority t.priority u ≡ false) tasks → (c : Section) → Owned tasks c → Owned (joined_by t tasks) c
 owned_joined t tasks rising other c owned =
     let k = rank t.priority tasks in
     let absent : t.priority ≡ c.owner → ⊥ = λ e. rw (ap (λ p. task_at p tasks) (sym e) ∙ first_by_none (has_priority t.priority) tasks other) at owned in
@@ -98,7 +98,7 @@ keeps_entered s t k rule =
 
 -- ---- altering a task
 
-all_replaced : (P : Task → Type 0) (new : Task) (tasks : List Task) → P new → All P tasks → All P (map (replaced_by new) tasks)
+all_replaced : (P : Task → Type 0) (new : Task) (tasks : List Task) → P new → AllByRecursion P tasks → AllByRecursion P (map (replaced_by new) tasks)
 all_replaced P new tasks here old =
     All-map P (replaced_by new) tasks (All-weaker P (λ t. P (replaced_by new t)) (λ t h. cond_both (has_priority new.priority t) new t P (λ _. here) (λ _. h)) tasks old)
 
@@ -168,7 +168,7 @@ keeps_struck s p k =
 -- ---- sections
 
 -- the same steps and tasks with other sections that keep the rules
-keeps_sections : (s : System) (sections : List Section) → Keeps s → length sections ≤ max_sections → All SectionBounded sections → All (Owned s.tasks) sections → Pairwise Apart sections → Keeps (system s.steps s.switch s.tasks sections)
+keeps_sections : (s : System) (sections : List Section) → Keeps s → length sections ≤ max_sections → AllByRecursion SectionBounded sections → AllByRecursion (Owned s.tasks) sections → Pairwise Apart sections → Keeps (system s.steps s.switch s.tasks sections)
 keeps_sections s sections k few bounded owned apart = record {
   some_step = k.some_step;
   few_steps = k.few_steps;

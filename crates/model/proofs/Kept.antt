@@ -4,7 +4,7 @@ use mathlib.Core.Bool.{Bool-set}
 use mathlib.Core.HLevel.{⊥_prop, Unit-prop}
 use mathlib.Core.Logic.{∥∥₁_elim}
 use native.Mathlib.Bridge.{le_prop}
-use Rattle.std.specs.List.{AllByRecursion as All}
+use Rattle.std.specs.List.{AllByRecursion}
 use Rattle.model.specs.declared.roster.Roster.{Roster}
 use Rattle.model.specs.Lists.{Pairwise}
 use Rattle.model.specs.Records.{InRange, Above, TaskBounded, Ordered, SectionBounded, held_on, Apart}
@@ -12,7 +12,7 @@ use Rattle.model.specs.Of.{of}
 use Rattle.model.specs.System.{System, Keeps}
 
 module _ {X : Type 0} where
-  all_prop : (P : X → Type 0) → ((x : X) → IsProp (P x)) → (xs : List X) → IsProp (All P xs)
+  all_prop : (P : X → Type 0) → ((x : X) → IsProp (P x)) → (xs : List X) → IsProp (AllByRecursion P xs)
   all_prop P h [] = Unit-prop
   all_prop P h (x ∷ xs) = λ p q i. (h x p.0 q.0 i, all_prop P h xs p.1 q.1 i)
 

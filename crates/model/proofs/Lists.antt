@@ -2,7 +2,7 @@
 use Rattle.std.proofs.Common.{◌≡◌, ℕ, zero, suc, ◌+◌, ◌-◌, ◌<◌, ◌≤◌, Bool, true, false, cond, List, [], ◌∷◌, ◌++◌, map, length, get_or, take, is_some, Some, None, filter, Option, sym, refl, ap, ◌∙◌, ⊎_elim, arith}
 use native.Mathlib.Numerals.{unary_clauses}
 use Rattle.std.specs.Option.{option_map}
-use Rattle.std.specs.List.{AllByRecursion as All}
+use Rattle.std.specs.List.{AllByRecursion}
 use Rattle.std.proofs.ByRecursion.{All-append, All-get_or, all_kept_by}
 use Rattle.std.proofs.lemmas.List.{take_more, length-take-le, get_or-take}
 use Rattle.std.proofs.lemmas.List.Sums.{length-filter, count_by-le-length}
@@ -11,16 +11,16 @@ use Rattle.model.specs.Lists.{Pairwise, first_by}
 
 -- ---- what holds of each item
 
-pub all_both : {X : Type 0} (P Q S : X → Type 0) → ((x : X) → P x → Q x → S x) → (xs : List X) → All P xs → All Q xs → All S xs
+pub all_both : {X : Type 0} (P Q S : X → Type 0) → ((x : X) → P x → Q x → S x) → (xs : List X) → AllByRecursion P xs → AllByRecursion Q xs → AllByRecursion S xs
 all_both P Q S f [] p q = tt
 all_both P Q S f (x ∷ xs) p q = (f x p.0 q.0, all_both P Q S f xs p.1 q.1)
 
-pub map_same : {X Y : Type 0} (P : X → Type 0) (f g : X → Y) → ((x : X) → P x → f x ≡ g x) → (xs : List X) → All P xs → map f xs ≡ map g xs
+pub map_same : {X Y : Type 0} (P : X → Type 0) (f g : X → Y) → ((x : X) → P x → f x ≡ g x) → (xs : List X) → AllByRecursion P xs → map f xs ≡ map g xs
 map_same P f g same [] h = refl
 map_same P f g same (x ∷ xs) h = rw (same x h.0, map_same P f g same xs h.1)
 
 module _ {X : Type 0} (keep : X → Bool) where
-  pub all_kept_with : (P Q : X → Type 0) → ((x : X) → keep x ≡ true → P x → Q x) → (xs : List X) → All P xs → All Q (filter keep xs)
+  pub all_kept_with : (P Q : X → Type 0) → ((x : X) → keep x ≡ true → P x → Q x) → (xs : List X) → AllByRecursion P xs → AllByRecursion Q (filter keep xs)
   all_kept_with P Q f [] h = tt
   all_kept_with P Q f (x ∷ xs) h =
       ⊎_elim
@@ -28,11 +28,11 @@ module _ {X : Type 0} (keep : X → Bool) where
       (λ e. rw e (all_kept_with P Q f xs h.1))
       (cases_Bool (keep x))
 
-  pub kept_by_all : (xs : List X) → All (λ x. keep x ≡ true) xs → filter keep xs ≡ xs
+  pub kept_by_all : (xs : List X) → AllByRecursion (λ x. keep x ≡ true) xs → filter keep xs ≡ xs
   kept_by_all [] h = refl
   kept_by_all (x ∷ xs) h = rw h.0 (ap (λ ys. x ∷ ys) (kept_by_all xs h.1))
 
-  pub kept_by_none : (xs : List X) → All (λ x. keep x ≡ false) xs → filter keep xs ≡ []
+  pub kept_by_none : (xs : List X) → AllByRecursion (λ x. keep x ≡ false) xs → filter keep xs ≡ []
   kept_by_none [] h = refl
   kept_by_none (x ∷ xs) h = rw h.0 (kept_by_none xs h.1)
 
@@ -42,11 +42,11 @@ module _ {X : Type 0} (keep : X → Bool) where
 -- ---- Pairwise
 
 module _ {X : Type 0} (R : X → X → Type 0) where
-  pub pairwise_append : (xs ys : List X) → Pairwise R xs → Pairwise R ys → All (λ x. All (R x) ys) xs → Pairwise R (xs ++ ys)
+  pub pairwise_append : (xs ys : List X) → Pairwise R xs → Pairwise R ys → AllByRecursion (λ x. AllByRecursion (R x) ys) xs → Pairwise R (xs ++ ys)
   pairwise_append [] ys p q h = q
   pairwise_append (x ∷ xs) ys p q h = (All-append (R x) xs ys p.0 h.0, pairwise_append xs ys p.1 q h.1)
 
-  pub pairwise_push : (xs : List X) (y : X) → Pairwise R xs → All (λ x. R x y) xs → Pairwise R (xs ++ (y ∷ []))
+  pub pairwise_push : (xs : List X) (y : X) → Pairwise R xs → AllByRecursion (λ x. R x y) xs → Pairwise R (xs ++ (y ∷ []))
   pairwise_push [] y p h = (tt, tt)
   pairwise_push (x ∷ xs) y p h = (All-append (R x) xs (y ∷ []) p.0 (h.0, tt), pairwise_push xs y p.1 h.1)
 
@@ -58,7 +58,7 @@ module _ {X : Type 0} (R : X → X → Type 0) where
       (λ e. rw e (pairwise_kept_by keep xs p.1))
       (cases_Bool (keep x))
 
-  pub all_mapped : (f : X → X) (x : X) → ((y : X) → R x y → R (f x) (f y)) → (ys : List X) → All (R x) ys → All (R (f x)) (map f ys)
+  pub all_mapped : (f : X → X) (x : X) → ((y : X) → R x y → R (f x) (f y)) → (ys : List X) → AllByRecursion (R x) ys → AllByRecursion (R (f x)) (map f ys)
   all_mapped f x keeps [] h = tt
   all_mapped f x keeps (y ∷ ys) h = (keeps y h.0, all_mapped f x keeps ys h.1)
 
@@ -73,7 +73,7 @@ module _ {X : Type 0} (R : X → X → Type 0) where
   pairwise_getD (x ∷ xs) (suc i) (suc j) d low high p = pairwise_getD xs i j d (omega arith) (omega arith) p.1
 
   -- what comes behind the last item comes behind each
-  all_by_last : ((x y z : X) → R x y → R y z → R x z) → (xs : List X) (y d : X) → 0 < length xs → Pairwise R xs → R (get_or xs (length xs - 1) d) y → All (λ x. R x y) xs
+  all_by_last : ((x y z : X) → R x y → R y z → R x z) → (xs : List X) (y d : X) → 0 < length xs → Pairwise R xs → R (get_or xs (length xs - 1) d) y → AllByRecursion (λ x. R x y) xs
   all_by_last through [] y d some p last = absurd (omega arith)
   all_by_last through (x ∷ []) y d some p last = (last, tt)
   all_by_last through (x ∷ (z ∷ zs)) y d some p last =
@@ -96,11 +96,11 @@ module _ {X : Type 0} (test : X → Bool) where
   first_by_skip [] ys x e = rw e
   first_by_skip (y ∷ xs) ys x e = ap (cond (test y) (Some y)) (first_by_skip xs ys x e)
 
-  pub first_by_none : (xs : List X) → All (λ x. test x ≡ false) xs → first_by test xs ≡ None
+  pub first_by_none : (xs : List X) → AllByRecursion (λ x. test x ≡ false) xs → first_by test xs ≡ None
   first_by_none [] h = refl
   first_by_none (x ∷ xs) h = rw h.0 (first_by_none xs h.1)
 
-  pub all_from_none : (xs : List X) → is_some (first_by test xs) ≡ false → All (λ x. test x ≡ false) xs
+  pub all_from_none : (xs : List X) → is_some (first_by test xs) ≡ false → AllByRecursion (λ x. test x ≡ false) xs
   all_from_none [] e = tt
   all_from_none (x ∷ xs) e =
       ⊎_elim

@@ -1,6 +1,6 @@
 -- What the place of a priority means in a list of rising priorities.
 use Rattle.std.proofs.Common.{◌≡◌, ℕ, ◌<◌, ◌≤◌, false, List, [], ◌∷◌, map, get_or, take, drop, set, filter, sym, refl, ap, ⊎_elim, one-add, arith}
-use Rattle.std.specs.List.{insert, AllByRecursion as All}
+use Rattle.std.specs.List.{insert, AllByRecursion}
 use Rattle.std.proofs.ByRecursion.{All-weaker}
 use Rattle.std.proofs.lemmas.Bool.{cases_order, lt-ltb, le-ltb, eq-eqb, ne_eqb, eqb-false}
 use Rattle.model.specs.declared.kinds.Task.{Task}
@@ -12,14 +12,14 @@ use Rattle.model.specs.Rewrite.{blank_task, rewritten}
 use Rattle.model.proofs.Lists.{kept_by_all, kept_by_none}
 
 -- the tasks behind one of a greater priority number have greater ones too
-behind : (p : ℕ) (t : Task) (tasks : List Task) → p ≤ t.priority → All (MoreUrgent t) tasks → All (λ u. p < u.priority) tasks
+behind : (p : ℕ) (t : Task) (tasks : List Task) → p ≤ t.priority → AllByRecursion (MoreUrgent t) tasks → AllByRecursion (λ u. p < u.priority) tasks
 behind p t tasks le more = All-weaker (MoreUrgent t) (λ u. p < u.priority) (λ u h. omega arith) tasks more
 
 module _ (p : ℕ) where
-  none_before : (tasks : List Task) → All (λ u. p < u.priority) tasks → filter (before p) tasks ≡ []
+  none_before : (tasks : List Task) → AllByRecursion (λ u. p < u.priority) tasks → filter (before p) tasks ≡ []
   none_before tasks h = kept_by_none (before p) tasks (All-weaker _ _ (λ u l. le-ltb u.priority p (omega arith)) tasks h)
 
-  all_after : (tasks : List Task) → All (λ u. p < u.priority) tasks → filter (after p) tasks ≡ tasks
+  all_after : (tasks : List Task) → AllByRecursion (λ u. p < u.priority) tasks → filter (after p) tasks ≡ tasks
   all_after tasks h = kept_by_all (after p) tasks (All-weaker _ _ (λ u l. lt-ltb p u.priority l) tasks h)
 
   pub rank_take : (tasks : List Task) → Pairwise MoreUrgent tasks → take (rank p tasks) tasks ≡ filter (before p) tasks
@@ -31,7 +31,7 @@ module _ (p : ℕ) where
       λ l. rw (le-ltb t.priority p l) (sym (none_before tasks (behind p t tasks l rising.0))) in
       ⊎_elim (λ e. high (omega arith)) (⊎_elim low (λ l. high (omega arith))) (cases_order t.priority p)
 
-  pub rank_drop : (tasks : List Task) → Pairwise MoreUrgent tasks → All (λ t. has_priority p t ≡ false) tasks → drop (rank p tasks) tasks ≡ filter (after p) tasks
+  pub rank_drop : (tasks : List Task) → Pairwise MoreUrgent tasks → AllByRecursion (λ t. has_priority p t ≡ false) tasks → drop (rank p tasks) tasks ≡ filter (after p) tasks
   rank_drop [] rising other = refl
   rank_drop (t ∷ tasks) rising other =
       ⊎_elim
@@ -42,11 +42,11 @@ module _ (p : ℕ) where
       (cases_order t.priority p)
 
 -- a task that is inserted at its rank stands between the more and the less urgent ones
-pub inserted_joins : (t : Task) (tasks : List Task) → Pairwise MoreUrgent tasks → All (λ u. has_priority t.priority u ≡ false) tasks → insert tasks (rank t.priority tasks) t ≡ joined_by t tasks
+pub inserted_joins : (t : Task) (tasks : List Task) → Pairwise MoreUrgent tasks → AllByRecursion (λ u. has_priority t.priority u ≡ false) tasks → insert tasks (rank t.priority tasks) t ≡ joined_by t tasks
 inserted_joins t tasks rising other = rw (rank_take t.priority tasks rising, rank_drop t.priority tasks rising other)
 
 module _ (new : Task) where
-  none_replaced : (tasks : List Task) → All (λ u. new.priority < u.priority) tasks → tasks ≡ map (replaced_by new) tasks
+  none_replaced : (tasks : List Task) → AllByRecursion (λ u. new.priority < u.priority) tasks → tasks ≡ map (replaced_by new) tasks
   none_replaced [] h = refl
   none_replaced (t ∷ tasks) h = rw (ne_eqb t.priority new.priority (λ e. omega arith)) (ap (λ ts. t ∷ ts) (none_replaced tasks h.1))
 

@@ -1,7 +1,7 @@
 -- For each call on a roster: the rule behind each refusal, and what an accepted call leaves.
 -- A refusal that a call never gives has the rule that asks nothing.
 use Rattle.std.specs.Prelude.{◌≡◌, ℕ, ◌<◌, ◌≤◌, true, false, cond, List, [], ◌∷◌, ◌++◌, map, length, is_some, IfSome, filter}
-use Rattle.std.specs.List.{AllByRecursion as All}
+use Rattle.std.specs.List.{AllByRecursion}
 use Rattle.model.specs.declared.kinds.Step.{Step}
 use Rattle.model.specs.declared.kinds.Task.{Task}
 use Rattle.model.specs.declared.kinds.Section.{Section}
@@ -18,7 +18,7 @@ use Rattle.model.specs.System.{System, system, task_at, section_at}
 
 abbrev pub LoadRule : List Step → ℕ → StepsRefusal → Type 0
 LoadRule steps switch Count = (1 ≤ length steps) × (length steps ≤ max_steps)
-LoadRule steps switch Range = All InRange steps × (switch ≤ max_switch)
+LoadRule steps switch Range = AllByRecursion InRange steps × (switch ≤ max_switch)
 LoadRule steps switch Falling = Pairwise Above steps
 
 -- the new table, and neither task nor section
@@ -55,7 +55,7 @@ AlterRule s t Floor = FloorFits (length s.steps) t
 AlterRule s t Taken = Unit {0}
 AlterRule s t Absent = is_some (task_at t.priority s.tasks) ≡ true
 AlterRule s t TasksFull = Unit {0}
-AlterRule s t Overlong = All (TakesIn t) s.sections
+AlterRule s t Overlong = AllByRecursion (TakesIn t) s.sections
 AlterRule s t SectionTaken = Unit {0}
 AlterRule s t SectionAbsent = Unit {0}
 AlterRule s t SectionsFull = Unit {0}

@@ -1,6 +1,6 @@
 -- A system with a margin on every number of cycles.
 use Rattle.std.specs.Prelude.{ℕ, ◌+◌, ◌*◌, ◌≤◌, min, map}
-use Rattle.std.specs.List.{AllByRecursion as All}
+use Rattle.std.specs.List.{AllByRecursion}
 use Rattle.model.specs.declared.kinds.Task.{Task}
 use Rattle.model.specs.declared.kinds.Section.{Section}
 use Rattle.model.specs.Bounds.{max_cycles}
@@ -35,5 +35,5 @@ grown m s = system s.steps s.switch (map (grown_task m) s.tasks) (map (grown_sec
 
 -- no task and no section would pass the bound of cycles
 pub record Grows (m : ℕ) (s : System) : Type 0 where
-  pub tasks : All (λ t. grown_cycles m t.cycles ≤ max_cycles) s.tasks
-  pub sections : All (λ c. grown_cycles m c.cycles ≤ max_cycles) s.sections
+  pub tasks : AllByRecursion (λ t. grown_cycles m t.cycles ≤ max_cycles) s.tasks
+  pub sections : AllByRecursion (λ c. grown_cycles m c.cycles ≤ max_cycles) s.sections

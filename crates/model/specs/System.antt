@@ -1,6 +1,6 @@
 -- What a roster says: its step table, its tasks and its sections, as lists, and the rules that it keeps.
 use Rattle.std.specs.Prelude.{ℕ, ◌≤◌, List, [], ◌∷◌, length, Option, MatchOption}
-use Rattle.std.specs.List.{AllByRecursion as All}
+use Rattle.std.specs.List.{AllByRecursion}
 use Rattle.model.specs.declared.kinds.Step.{Step}
 use Rattle.model.specs.declared.kinds.Task.{Task}
 use Rattle.model.specs.declared.kinds.Section.{Section}
@@ -37,17 +37,17 @@ Owned tasks c = MatchOption (task_at c.owner tasks) ⊥ (Within c)
 pub record Keeps (s : System) : Type 0 where
   pub some_step : 1 ≤ length s.steps
   pub few_steps : length s.steps ≤ max_steps
-  pub in_range : All InRange s.steps
+  pub in_range : AllByRecursion InRange s.steps
   pub falling : Pairwise Above s.steps
   pub short_switch : s.switch ≤ max_switch
   pub few_tasks : length s.tasks ≤ max_tasks
-  pub bounded : All TaskBounded s.tasks
-  pub ordered : All Ordered s.tasks
-  pub floors : All (FloorFits (length s.steps)) s.tasks
+  pub bounded : AllByRecursion TaskBounded s.tasks
+  pub ordered : AllByRecursion Ordered s.tasks
+  pub floors : AllByRecursion (FloorFits (length s.steps)) s.tasks
   pub rising : Pairwise MoreUrgent s.tasks
   pub few_sections : length s.sections ≤ max_sections
-  pub sections_bounded : All SectionBounded s.sections
-  pub owned : All (Owned s.tasks) s.sections
+  pub sections_bounded : AllByRecursion SectionBounded s.sections
+  pub owned : AllByRecursion (Owned s.tasks) s.sections
   pub apart : Pairwise Apart s.sections
 
 -- a new roster: one step of the slowest clock and the lowest voltage, and no task

@@ -1,6 +1,6 @@
 // Each rule of a roster as a question. The first that is broken, in the order of their numbers, refuses a call.
 ghost use Rattle.std.specs.Prelude.{◌≡◌, true, is_some, Decides};
-ghost use Rattle.std.specs.List.{AllByRecursion as All};
+ghost use Rattle.std.specs.List.{AllByRecursion};
 ghost use Rattle.model.specs.Lists.{Pairwise};
 ghost use Rattle.model.specs.Records.{InRange, Above, TaskBounded, Ordered, FloorFits, SectionBounded, Within, TakesIn};
 ghost use Rattle.model.specs.System.{section_at};
@@ -33,7 +33,7 @@ fn in_range(step: &Step) -> bool
 }
 
 pub(crate) fn all_in_range(steps: &[Step]) -> bool
-    ensures { Decides result (All InRange steps.now) }
+    ensures { Decides result (AllByRecursion InRange steps.now) }
 {
     for step in steps {
         if !in_range(step) {
@@ -100,7 +100,7 @@ pub(crate) fn within(section: &Section, task: &Task) -> bool
 
 // Whether every section of the task's priority is within the task.
 pub(crate) fn holds_sections(task: &Task, sections: &[Section]) -> bool
-    ensures { Decides result (All (TakesIn task.now) sections.now) }
+    ensures { Decides result (AllByRecursion (TakesIn task.now) sections.now) }
 {
     for section in sections {
         if section.owner == task.priority && !within(section, task) {

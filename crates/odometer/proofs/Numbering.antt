@@ -2,7 +2,7 @@
 use Rattle.std.proofs.Common.{◌≡◌, ℕ, zero, suc, ◌+◌, ◌*◌, ◌/◌, ◌%◌, ◌^◌, ◌<◌, ◌≤◌, List, [], ◌∷◌, ◌++◌, length, sym, ap, ◌∙◌, pow-suc, div-add-mod', arith}
 use native.Mathlib.Nat.{pow-zero, zero-div, zero-mod}
 use Rattle.std.specs.Int.Digits.{number_from_digits, number_from_digits_after}
-use Rattle.std.specs.List.{AllZip, AllByRecursion as All}
+use Rattle.std.specs.List.{AllZip, AllByRecursion}
 use Rattle.std.proofs.lemmas.Nat.{div_below, div-mul-add, mod_below, mod-mul-add}
 use Rattle.std.proofs.lemmas.Int.Digits.{number_push}
 use Rattle.std.proofs.lemmas.List.Elements.{AllZip-push}
@@ -10,17 +10,17 @@ use Rattle.std.proofs.ByRecursion.{All-push}
 use Rattle.std.proofs.lemmas.List.{append_assoc, append-nil}
 use Rattle.odometer.specs.Digits.{digits}
 
-pub digits_under : (g t n : ℕ) → 1 ≤ g → All (λ d. d < g) (digits g t n)
+pub digits_under : (g t n : ℕ) → 1 ≤ g → AllByRecursion (λ d. d < g) (digits g t n)
 digits_under g zero n pos = tt
 digits_under g (suc t) n pos = All-push (λ d. d < g) (digits g t (n / g)) (n % g) (digits_under g t (n / g) pos) (mod_below n g pos)
 
 -- Digits read on after n stand after the digits of n.
-digits_after : (g k m n : ℕ) (ds : List ℕ) → m ≡ k + length ds → All (λ d. d < g) ds → digits g m (number_from_digits_after g n ds) ≡ digits g k n ++ ds
+digits_after : (g k m n : ℕ) (ds : List ℕ) → m ≡ k + length ds → AllByRecursion (λ d. d < g) ds → digits g m (number_from_digits_after g n ds) ≡ digits g k n ++ ds
 digits_after g k m n [] e under = let same : m ≡ k = omega arith in rw (append-nil, same)
 digits_after g k m n (d ∷ ds) e under =
     digits_after g (suc k) m (n * g + d) ds (omega arith) under.1 ∙ rw (div-mul-add n g d under.0, mod-mul-add n g d under.0, append_assoc)
 
-pub digits_number : (g : ℕ) (ds : List ℕ) → All (λ d. d < g) ds → digits g (length ds) (number_from_digits g ds) ≡ ds
+pub digits_number : (g : ℕ) (ds : List ℕ) → AllByRecursion (λ d. d < g) ds → digits g (length ds) (number_from_digits g ds) ≡ ds
 digits_number g ds under = digits_after g 0 (length ds) 0 ds (omega arith) under
 
 -- The digits of a number read as that number.

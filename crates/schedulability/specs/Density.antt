@@ -1,6 +1,6 @@
 -- The density of a set: the part of the processor that the tasks need before their deadlines.
 use Rattle.std.specs.Prelude.{◌≡◌, ℕ, ◌+◌, ◌*◌, ◌≤◌, List, [], sum_by}
-use Rattle.std.specs.List.{zip, AllByRecursion as All}
+use Rattle.std.specs.List.{zip, AllByRecursion}
 use Rattle.model.specs.declared.kinds.Task.{Task}
 use Rattle.model.specs.Quotient.{up}
 use Rattle.model.specs.System.{System}
@@ -23,6 +23,6 @@ Steady t = t.jitter ≡ 0
 pub record Sparse (s : System) (set : List ℕ) : Type 0 where
   pub isset : IsSet s set
   -- no task has jitter, and no section stands
-  pub steady : All Steady s.tasks
+  pub steady : AllByRecursion Steady s.tasks
   pub free : s.sections ≡ []
   pub light : density s set ≤ whole

@@ -1,6 +1,6 @@
 // The density test: deadlines are met where the tasks together need no more than the whole processor.
 ghost use Rattle.std.specs.Prelude.{◌≡◌, ◌<◌, length, Decides};
-ghost use Rattle.std.specs.List.{AllByRecursion as All};
+ghost use Rattle.std.specs.List.{AllByRecursion};
 ghost use Rattle.model.specs.Of.{of};
 ghost use Rattle.model.specs.Records.{TaskBounded};
 ghost use Rattle.schedulability.specs.Density.{Sparse, Steady, density as density_of, part as part_of};
@@ -18,7 +18,7 @@ const WHOLE: u64 = 1_000_000_000;
 pub struct Density;
 
 fn steady(tasks: &[Task]) -> bool
-    ensures { Decides result (All Steady tasks.now) }
+    ensures { Decides result (AllByRecursion Steady tasks.now) }
 {
     for task in tasks {
         if task.jitter > 0 {

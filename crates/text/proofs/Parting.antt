@@ -1,6 +1,6 @@
 -- Parts and what is joined from them are the same thing.
 use Rattle.std.proofs.Common.{◌≡◌, ℕ, ◌+◌, ◌<◌, cond, eqb, List, [], ◌∷◌, ◌++◌, length, sym, refl, ap, ◌∙◌, inl, inr, arith}
-use Rattle.std.specs.List.{AllByRecursion as All}
+use Rattle.std.specs.List.{AllByRecursion}
 use Rattle.std.proofs.lemmas.List.{append-nil, append_cancel_right}
 use Rattle.std.proofs.lemmas.List.Sums.{sum_by-cons}
 use Rattle.std.proofs.lemmas.Bool.{cases_eq, eq-eqb, ne_eqb}
@@ -39,12 +39,12 @@ parts_cut sep [] more free = rw (eq-eqb sep sep refl)
 parts_cut sep (b ∷ bs) more (apart, free) = rw (ne_eqb b sep apart, parts_cut sep bs more free)
 
 -- joined parts come apart again
-parts_trailed : (sep : ℕ) (p : List ℕ) (ps : List (List ℕ)) → Free sep p → All (Free sep) ps → parts sep (p ++ trailed sep ps) ≡ p ∷ ps
+parts_trailed : (sep : ℕ) (p : List ℕ) (ps : List (List ℕ)) → Free sep p → AllByRecursion (Free sep) ps → parts sep (p ++ trailed sep ps) ≡ p ∷ ps
 parts_trailed sep p [] free all = rw (append-nil, parts_whole sep p free)
 parts_trailed sep p (q ∷ ps) free (next, all) =
     parts_cut sep p (q ++ trailed sep ps) free ∙ ap (λ (qs : List (List ℕ)). p ∷ qs) (parts_trailed sep q ps next all)
 
-pub parts_joined : (sep : ℕ) (ps : List (List ℕ)) → (ps ≡ [] → ⊥) → All (Free sep) ps → parts sep (joined sep ps) ≡ ps
+pub parts_joined : (sep : ℕ) (ps : List (List ℕ)) → (ps ≡ [] → ⊥) → AllByRecursion (Free sep) ps → parts sep (joined sep ps) ≡ ps
 parts_joined sep [] some all = absurd (some refl)
 parts_joined sep (p ∷ ps) some (free, all) = parts_trailed sep p ps free all
 
@@ -66,11 +66,11 @@ joined_parts sep (b ∷ bs) =
     ]
 
 -- no part has a separator
-free_before : (sep b : ℕ) (ps : List (List ℕ)) → (b ≡ sep → ⊥) → All (Free sep) ps → All (Free sep) (before b ps)
+free_before : (sep b : ℕ) (ps : List (List ℕ)) → (b ≡ sep → ⊥) → AllByRecursion (Free sep) ps → AllByRecursion (Free sep) (before b ps)
 free_before sep b [] apart all = ((apart, tt), tt)
 free_before sep b (p ∷ ps) apart (free, all) = ((apart, free), all)
 
-pub parts_free : (sep : ℕ) (bs : List ℕ) → All (Free sep) (parts sep bs)
+pub parts_free : (sep : ℕ) (bs : List ℕ) → AllByRecursion (Free sep) (parts sep bs)
 parts_free sep [] = (tt, tt)
 parts_free sep (b ∷ bs) =
     elim (cases_eq b sep) [
@@ -79,9 +79,9 @@ parts_free sep (b ∷ bs) =
     ]
 
 -- lines that end in newlines are known from the text
-pub parts_ended : (ls : List (List ℕ)) → All (Free newline) ls → parts newline (ended ls) ≡ ls ++ ([] ∷ [])
+pub parts_ended : (ls : List (List ℕ)) → AllByRecursion (Free newline) ls → parts newline (ended ls) ≡ ls ++ ([] ∷ [])
 parts_ended [] all = refl
 parts_ended (l ∷ ls) (free, all) = parts_cut newline l (ended ls) free ∙ rw (parts_ended ls all)
 
-pub lines_unique : (ls ms : List (List ℕ)) → All (Free newline) ls → All (Free newline) ms → ended ls ≡ ended ms → ls ≡ ms
+pub lines_unique : (ls ms : List (List ℕ)) → AllByRecursion (Free newline) ls → AllByRecursion (Free newline) ms → ended ls ≡ ended ms → ls ≡ ms
 lines_unique ls ms f g e = append_cancel_right ls ms ([] ∷ []) (sym (parts_ended ls f) ∙ ap (parts newline) e ∙ parts_ended ms g)

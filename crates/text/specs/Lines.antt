@@ -1,6 +1,6 @@
 -- Texts with separators: what stands between them, and what is put together with them.
 use Rattle.std.specs.Prelude.{◌≡◌, ℕ, ◌+◌, ◌<◌, ◌≤◌, cond, List, [], ◌∷◌, ◌++◌, length, drop, count_by, ◌==◌, ◌≢◌, nat_eq}
-use Rattle.std.specs.List.{between, AllByRecursion as All}
+use Rattle.std.specs.List.{between, AllByRecursion}
 
 abbrev pub newline : ℕ
 newline = 10
@@ -10,7 +10,7 @@ space = 32
 
 -- no separator stands in it
 abbrev pub Free : ℕ → List ℕ → Type 0
-Free sep bs = All (λ b. b ≢ sep) bs
+Free sep bs = AllByRecursion (λ b. b ≢ sep) bs
 
 -- how many separators stand in it
 abbrev pub separators : ℕ → List ℕ → ℕ

@@ -1,6 +1,6 @@
 -- Demand rises with the window, no sum of it wraps, and it is at least what the shares say.
 use Rattle.std.proofs.Common.{ℕ, zero, suc, ◌+◌, ◌*◌, ◌^◌, ◌<◌, ◌≤◌, List, [], ◌∷◌, length, sum_by, ⊎_elim, mul-le-mul_right, mul_assoc, add-mul, mul-le-mul, lt_of_mul-lt-mul_right, mul-le-mul_left, mul-add, div-le_self, div-mul-le_self, mul_left_comm, arith}
-use Rattle.std.specs.List.{AllByRecursion as All}
+use Rattle.std.specs.List.{AllByRecursion}
 use Rattle.std.proofs.ByRecursion.{All-weaker, sum_by_le}
 use Rattle.std.proofs.lemmas.List.Sums.{sum_by-cons}
 use Rattle.std.proofs.lemmas.Bool.{cases_lt}
@@ -11,7 +11,7 @@ use Rattle.timing.specs.Demand.{interference, share, demand, Bounded, Under, Win
 use Rattle.model.proofs.Quotients.{up_covers, up_close, up_least, up_rises}
 
 -- what holds of the terms, some times over, holds of their sums
-sums_le : {X : Type 0} (f g : X → ℕ) (a b : ℕ) (xs : List X) → All (λ x. f x * a ≤ g x * b) xs → sum_by f xs * a ≤ sum_by g xs * b
+sums_le : {X : Type 0} (f g : X → ℕ) (a b : ℕ) (xs : List X) → AllByRecursion (λ x. f x * a ≤ g x * b) xs → sum_by f xs * a ≤ sum_by g xs * b
 sums_le f g a b [] h = omega arith
 sums_le f g a b (x ∷ xs) (here, rest) = simp (sum_by-cons, add-mul) (omega (arith, here, sums_le f g a b xs rest))
 
@@ -20,7 +20,7 @@ interference_rises v w l h (some, _, _) =
     let rise = up_rises (v + l.jitter) (w + l.jitter) l.period some (omega arith) in
     omega (arith, mul-le-mul_right l.cost rise)
 
-pub demand_rises : (own : ℕ) (urgent : List Load) (v w : ℕ) → All Bounded urgent → v ≤ w → demand own urgent v ≤ demand own urgent w
+pub demand_rises : (own : ℕ) (urgent : List Load) (v w : ℕ) → AllByRecursion Bounded urgent → v ≤ w → demand own urgent v ≤ demand own urgent w
 demand_rises own urgent v w bounded h =
     let each = All-weaker Bounded _ (λ l. interference_rises v w l h) urgent bounded in
     omega (arith, sums_le (interference v) (interference w) 1 1 urgent each)
@@ -29,7 +29,7 @@ interference_fits : (w : ℕ) (l : Load) → w ≤ max_period → Bounded l → 
 interference_fits w l short (some, late, cheap) =
     mul-le-mul (up_least (w + l.jitter) l.period (2 * max_period) some (omega arith)) cheap
 
-pub demand_fits : (own : ℕ) (urgent : List Load) (w : ℕ) → own ≤ max_own → length urgent ≤ max_loads → All Bounded urgent → w ≤ max_period → demand own urgent w < 2 ^ 63
+pub demand_fits : (own : ℕ) (urgent : List Load) (w : ℕ) → own ≤ max_own → length urgent ≤ max_loads → AllByRecursion Bounded urgent → w ≤ max_period → demand own urgent w < 2 ^ 63
 demand_fits own urgent w small few bounded short =
     let each = All-weaker Bounded _ (λ l. interference_fits w l short) urgent bounded in
     omega (arith, sum_by_le (interference w) (2 * max_period * max_cost) urgent each)
@@ -37,7 +37,7 @@ demand_fits own urgent w small few bounded short =
 share_fits : (l : Load) → Bounded l → share l ≤ max_cost * scale
 share_fits l (_, _, cheap) = omega (arith, div-le_self (l.cost * scale) l.period)
 
-pub shares_fit : (urgent : List Load) → length urgent ≤ max_loads → All Bounded urgent → sum_by share urgent < 2 ^ 63
+pub shares_fit : (urgent : List Load) → length urgent ≤ max_loads → AllByRecursion Bounded urgent → sum_by share urgent < 2 ^ 63
 shares_fit urgent few bounded =
     omega (arith, sum_by_le share (max_cost * scale) urgent (All-weaker Bounded _ share_fits urgent bounded))
 
@@ -54,7 +54,7 @@ interference_shares w l (some, _, _) =
       mul_assoc n l.cost scale,
     )
 
-pub demand_shares : (own : ℕ) (urgent : List Load) (w : ℕ) → All Bounded urgent → own * scale + sum_by share urgent * w ≤ demand own urgent w * scale
+pub demand_shares : (own : ℕ) (urgent : List Load) (w : ℕ) → AllByRecursion Bounded urgent → own * scale + sum_by share urgent * w ≤ demand own urgent w * scale
 demand_shares own urgent w bounded =
     let each = All-weaker Bounded _ (interference_shares w) urgent bounded in
     omega (arith, sums_le share (interference w) w scale urgent each)

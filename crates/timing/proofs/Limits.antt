@@ -1,6 +1,6 @@
 -- The bounds of a system's loads and holds, and so of a task's own part.
 use Rattle.std.proofs.Common.{◌≡◌, ℕ, ◌+◌, ◌<◌, ◌≤◌, max, List, [], ◌∷◌, map, length, get_or, fold, filter, ap, ◌∙◌, ⊎_elim, arith}
-use Rattle.std.specs.List.{zip, AllByRecursion as All}
+use Rattle.std.specs.List.{zip, AllByRecursion}
 use Rattle.std.proofs.ByRecursion.{All-from_get_or, All-get_or, all_kept_by, All-map}
 use Rattle.std.proofs.lemmas.List.{get_or-map}
 use Rattle.std.proofs.lemmas.Slice.Zip.{get_or-zip, length-zip}
@@ -17,11 +17,11 @@ use Rattle.timing.specs.Windows.{task, idle, own}
 use Rattle.timing.proofs.Blockers.{blank_section}
 use Rattle.timing.proofs.Systems.{clock_fast, step_named, time_fits, time_some}
 
-folded_max_fits : (m z : ℕ) (xs : List ℕ) → z ≤ m → All (λ x. x ≤ m) xs → fold max z xs ≤ m
+folded_max_fits : (m z : ℕ) (xs : List ℕ) → z ≤ m → AllByRecursion (λ x. x ≤ m) xs → fold max z xs ≤ m
 folded_max_fits m z [] low all = low
 folded_max_fits m z (x ∷ xs) low all = folded_max_fits m (max z x) xs (omega (arith, all.0)) all.1
 
-pub blocking_fits : (p m : ℕ) (held : List Hold) → All (λ h. h.time ≤ m) held → blocking p held ≤ m
+pub blocking_fits : (p m : ℕ) (held : List Hold) → AllByRecursion (λ h. h.time ≤ m) held → blocking p held ≤ m
 blocking_fits p m held all =
     folded_max_fits m 0 (map (λ h. h.time) (filter (blocks p) held)) (omega arith) (All-map (λ x. x ≤ m) (λ h. h.time) (filter (blocks p) held) (all_kept_by (blocks p) (λ h. h.time ≤ m) held all))
 
@@ -40,7 +40,7 @@ module _ (s : System) (set : List ℕ) (k : Keeps s) (long : Covers s set) (name
       let fits = time_fits (task s i).cycles _ bounds.2 fast in
       ((bounds.3, omega (arith, bounds, orders), omega (arith, fits, k.short_switch)), time_some (task s i).cycles _ bounds.1 fast, fits)
 
-  pub loads_bounded : All Bounded (loads s set)
+  pub loads_bounded : AllByRecursion Bounded (loads s set)
   loads_bounded =
       All-map Bounded (load s) (zip s.tasks set) (All-from_get_or (λ a. Bounded (load s a)) (zip s.tasks set) (blank_task, 0) (λ i h.
       let low : i < length s.tasks = omega (arith, length-zip s.tasks set) in
@@ -59,7 +59,7 @@ module _ (s : System) (set : List ℕ) (k : Keeps s) (long : Covers s set) (name
       (λ miss. absurd (rw miss.1 at owned))
       (sought s.tasks c.owner k.rising)
 
-  pub holds_short : All (λ h. h.time ≤ max_time) (holds s set)
+  pub holds_short : AllByRecursion (λ h. h.time ≤ max_time) (holds s set)
   holds_short = All-map (λ h. h.time ≤ max_time) (hold s set) s.sections (All-from_get_or (λ c. (hold s set c).time ≤ max_time) s.sections blank_section hold_limit)
 
   -- a task's own part: at least 1, and bounded

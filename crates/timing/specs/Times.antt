@@ -1,6 +1,6 @@
 -- What a set of steps makes of a system: times, loads, ceilings and holds.
 use Rattle.std.specs.Prelude.{◌≡◌, ℕ, ◌+◌, ◌*◌, ◌<◌, ◌≤◌, min, max, Bool, ◌&&◌, List, map, length, take, fold, filter, ◌==◌, nat_le, nat_lt, slice_index, slice_index_or}
-use Rattle.std.specs.List.{zip, AllZip, AllByRecursion as All}
+use Rattle.std.specs.List.{zip, AllZip, AllByRecursion}
 use Rattle.model.specs.declared.kinds.Task.{Task}
 use Rattle.model.specs.declared.kinds.Section.{Section}
 use Rattle.model.specs.Lookup.{rank}
@@ -15,7 +15,7 @@ use Rattle.model.specs.Quotient.{up}
 -- A set names one step for each task, in priority order.
 pub record IsSet (s : System) (set : List ℕ) : Type 0 where
   pub whole : length set ≡ length s.tasks
-  pub named : All (λ g. g < length s.steps) set
+  pub named : AllByRecursion (λ g. g < length s.steps) set
 
 -- the set that a list stands for: its first places, one for each task
 abbrev pub front : System → List ℕ → List ℕ
@@ -26,7 +26,7 @@ abbrev pub Covers : System → List ℕ → Type 0
 Covers s set = length s.tasks ≤ length set
 
 abbrev pub InTable : System → List ℕ → Type 0
-InTable s set = All (λ g. g < length s.steps) (front s set)
+InTable s set = AllByRecursion (λ g. g < length s.steps) (front s set)
 
 -- one set is at least as fast as another at each task: a smaller number is a faster step
 abbrev pub Faster : List ℕ → List ℕ → Type 0

@@ -1,6 +1,6 @@
 // The response iteration, over plain numbers.
 ghost use Rattle.std.specs.Prelude.{◌≡◌, ◌^◌, ◌<◌, ◌≤◌, length, sum_by};
-ghost use Rattle.std.specs.List.{AllByRecursion as All};
+ghost use Rattle.std.specs.List.{AllByRecursion};
 ghost use Rattle.timing.specs.Bounds.{max_own, max_period, max_loads};
 ghost use Rattle.timing.specs.Demand.{demand, interference, share, Bounded, Under, Judged};
 
@@ -37,7 +37,7 @@ impl Load {
 fn demand_over(own: u64, urgent: &[Load], w: u64) -> u64
     requires own { own ≤ max_own }
     requires few { length urgent.now ≤ max_loads }
-    requires bounded { All Bounded urgent.now }
+    requires bounded { AllByRecursion Bounded urgent.now }
     requires short { w ≤ max_period }
     ensures { result ≡ demand own urgent.now w }
 {
@@ -50,7 +50,7 @@ fn demand_over(own: u64, urgent: &[Load], w: u64) -> u64
 
 fn shares(urgent: &[Load]) -> u64
     requires few { length urgent.now ≤ max_loads }
-    requires bounded { All Bounded urgent.now }
+    requires bounded { AllByRecursion Bounded urgent.now }
     ensures { result ≡ sum_by share urgent.now }
 {
     let mut total = 0;
@@ -65,7 +65,7 @@ fn start(own: u64, urgent: &[Load]) -> u64
     requires positive { 1 ≤ own }
     requires own { own ≤ max_own }
     requires few { length urgent.now ≤ max_loads }
-    requires bounded { All Bounded urgent.now }
+    requires bounded { AllByRecursion Bounded urgent.now }
     ensures under { Under (demand own urgent.now) result }
     ensures fits { result < 2 ^ 63 }
 {
@@ -78,7 +78,7 @@ pub(crate) fn window(own: u64, urgent: &[Load], jitter: u64, deadline: u64) -> O
     requires positive { 1 ≤ own }
     requires own { own ≤ max_own }
     requires few { length urgent.now ≤ max_loads }
-    requires bounded { All Bounded urgent.now }
+    requires bounded { AllByRecursion Bounded urgent.now }
     requires late { jitter ≤ max_period }
     requires due { deadline ≤ max_period }
     ensures { Judged (demand own urgent.now) jitter deadline result }

@@ -1,6 +1,6 @@
 // Sections as the tasks that they may block see them.
 ghost use Rattle.std.specs.Prelude.{◌≡◌, ℕ, ◌<◌, slice_index};
-ghost use Rattle.std.specs.List.{AllByRecursion as All};
+ghost use Rattle.std.specs.List.{AllByRecursion};
 ghost use Rattle.model.specs.Records.{SectionBounded};
 ghost use Rattle.timing.specs.Times.{ceiling, blocks as blocked_by, blocking as longest};
 
@@ -30,7 +30,7 @@ impl Hold {
 
 // The ceiling of each resource.
 pub(crate) fn ceilings(sections: &[Section]) -> [u32; RESOURCES]
-    requires { All SectionBounded sections.now }
+    requires { AllByRecursion SectionBounded sections.now }
     ensures { (k : ℕ) → k < 8 → slice_index result k ≡ ceiling sections.now k }
 {
     let mut ceilings = [NO_CEILING; RESOURCES];

@@ -1,5 +1,5 @@
 ghost use Rattle.std.specs.Prelude.{◌≡◌, ◌<◌, ◌≤◌, Bool, true, [], ◌∷◌, ◌++◌, map, length, Decides, filter, slice_index_or, slice_set};
-ghost use Rattle.std.specs.List.{insert, AllByRecursion as All};
+ghost use Rattle.std.specs.List.{insert, AllByRecursion};
 ghost use Rattle.model.specs.Held.{held};
 ghost use Rattle.model.specs.Rewrite.{blank_task, rewritten};
 
@@ -16,7 +16,7 @@ pub trait Choice<T> {
 
 // Whether every item of a list is chosen.
 pub(crate) fn every<T, C: Choice<T>>(items: &[T], choice: &C) -> bool
-    ensures { Decides result (All (λ x. C.Choice.chosen choice.now x ≡ true) items.now) }
+    ensures { Decides result (AllByRecursion (λ x. C.Choice.chosen choice.now x ≡ true) items.now) }
 {
     for item in items {
         if !choice.chooses(item) {

@@ -1,6 +1,6 @@
 -- Each section lowers one ceiling, and at the end every section was taken in.
 use Rattle.std.proofs.Common.{◌≡◌, ℕ, ◌+◌, ◌<◌, min, true, false, List, length, get_or, take, set, sym, inl, inr, arith}
-use Rattle.std.specs.List.{AllByRecursion as All}
+use Rattle.std.specs.List.{AllByRecursion}
 use Rattle.std.proofs.ByRecursion.{All-get_or}
 use Rattle.std.proofs.lemmas.List.{take_all, length-set, get_or-set_same, get_or-set_other}
 use Rattle.std.proofs.lemmas.Bool.{cases_eq, eq-eqb, ne_eqb}
@@ -12,7 +12,7 @@ use Rattle.timing.proofs.Chosen.{chosen_more}
 use Rattle.timing.proofs.holds.ceilings.Goals as goal
 
 -- a section's resource has a place in the array
-placed : (sections : List Section) (i : ℕ) (d : Section) → All SectionBounded sections → i < length sections → (get_or sections i d).resource < 8
+placed : (sections : List Section) (i : ℕ) (d : Section) → AllByRecursion SectionBounded sections → i < length sections → (get_or sections i d).resource < 8
 placed sections i d bounded h = omega (arith, All-get_or SectionBounded sections i d h bounded)
 
 -- one section lowers the ceiling of its own resource alone
