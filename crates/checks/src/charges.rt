@@ -1,30 +1,25 @@
-use crate::sample::*;
+use crate::small::*;
 use tariffs::amount::Amount;
 use tariffs::charge::charge;
 use tariffs::energy::Energy;
 use tariffs::paired::Paired;
 use tariffs::peak::Peak;
+use tariffs::tariff::Tariff;
 
-fn energy(set: &[u8]) -> u64 {
-    let sum: Energy = charge(&small(), set);
-    sum.amount
-}
-
-fn peak(set: &[u8]) -> u32 {
-    let highest: Peak = charge(&small(), set);
-    highest.voltage
+fn charged<C: Tariff>(set: &[u8]) -> C {
+    charge(&small(), set)
 }
 
 #[test]
 fn sets_and_other_lists(rt: HostRuntime) {
-    assert_eq!(rt; energy(&[0, 1]), 10 * 400 + 10 * 100);
-    assert_eq!(rt; energy(&[1, 1, 0]), 2_000);
-    assert_eq!(rt; energy(&[1]), 1_000);
-    assert_eq!(rt; energy(&[0, 2]), 4_000);
-    assert_eq!(rt; energy(&[]), 0);
-    assert_eq!(rt; peak(&[1, 0]), 20);
-    assert_eq!(rt; peak(&[1, 1]), 10);
-    assert_eq!(rt; peak(&[]), 0);
+    assert_eq!(rt; charged::<Energy>(&[0, 1]).amount, 10 * 400 + 10 * 100);
+    assert_eq!(rt; charged::<Energy>(&[1, 1, 0]).amount, 2_000);
+    assert_eq!(rt; charged::<Energy>(&[1]).amount, 1_000);
+    assert_eq!(rt; charged::<Energy>(&[0, 2]).amount, 4_000);
+    assert_eq!(rt; charged::<Energy>(&[]).amount, 0);
+    assert_eq!(rt; charged::<Peak>(&[1, 0]).voltage, 20);
+    assert_eq!(rt; charged::<Peak>(&[1, 1]).voltage, 10);
+    assert_eq!(rt; charged::<Peak>(&[]).voltage, 0);
 }
 
 // First parts decide, and second parts where the first are equal.

@@ -8,9 +8,9 @@ mod numbers;
 #[cfg(test)]
 mod rosters;
 #[cfg(test)]
-mod sample;
-#[cfg(test)]
 mod sections;
+#[cfg(test)]
+mod small;
 #[cfg(test)]
 mod stretches;
 #[cfg(test)]

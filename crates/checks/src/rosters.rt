@@ -1,6 +1,7 @@
-use crate::sample::*;
+use crate::small::*;
 use model::kinds::{Step, Task};
 use model::roster::Roster;
+use sample::answer;
 
 fn loads(clock: u32, voltage: u32, switch: u32) -> u8 {
     let first = Step {
@@ -8,16 +9,13 @@ fn loads(clock: u32, voltage: u32, switch: u32) -> u8 {
         voltage: 500,
     };
     let second = Step { clock, voltage };
-    steps_answer(Roster::new().load(&[first, second], switch))
+    answer(Roster::new().load(&[first, second], switch))
 }
 
 #[test]
 fn step_tables(rt: HostRuntime) {
-    assert_eq!(rt; steps_answer(Roster::new().load(&[], 0)), 1);
-    assert_eq!(rt;
-        steps_answer(Roster::new().load(&[STEPS[0]; 9], 9_000_000)),
-        1
-    );
+    assert_eq!(rt; answer(Roster::new().load(&[], 0)), 1);
+    assert_eq!(rt; answer(Roster::new().load(&[STEPS[0]; 9], 9_000_000)), 1);
     assert_eq!(rt; loads(1_000, 1, 1_000_000), 0);
     assert_eq!(rt; loads(999, 1, 0), 2);
     assert_eq!(rt; loads(1_000, 0, 0), 2);
@@ -125,11 +123,7 @@ fn tasks_stand_in_priority_order(rt: HostRuntime) {
     );
     assert_eq!(rt; answer(roster.enter(plain(255))), 0);
     assert_eq!(rt; answer(roster.enter(plain(0))), 0);
-    let mut last = 0;
-    for task in roster.tasks() {
-        assert!(rt; last <= task.priority);
-        last = task.priority;
-    }
+    assert!(rt; roster.tasks().is_sorted_by_key(|task| task.priority));
     assert_eq!(rt; roster.tasks().len(), 5);
 }
 

@@ -1,5 +1,6 @@
-use crate::sample::*;
+use crate::small::*;
 use model::kinds::Task;
+use sample::{answer, section};
 
 #[test]
 fn bounds_of_a_section(rt: HostRuntime) {

@@ -1,24 +1,25 @@
-use crate::sample::*;
+use crate::small::*;
 use model::kinds::Task;
 use model::roster::Roster;
+use sample::{answer, section};
 use timing::windows::windows;
 
 #[test]
 fn lists_and_steps(rt: HostRuntime) {
     let roster = small();
     let mut out = [9; 3];
-    assert_eq!(rt; call_answer(windows(&roster, &[0], &mut out)), 15);
-    assert_eq!(rt; call_answer(windows(&roster, &[2, 2], &mut [0; 1])), 15);
-    assert_eq!(rt; call_answer(windows(&roster, &[0, 2], &mut out)), 16);
+    assert_eq!(rt; answer(windows(&roster, &[0], &mut out)), 15);
+    assert_eq!(rt; answer(windows(&roster, &[2, 2], &mut [0; 1])), 15);
+    assert_eq!(rt; answer(windows(&roster, &[0, 2], &mut out)), 16);
     assert_eq!(rt; out, [9, 9, 9]);
-    assert_eq!(rt; call_answer(windows(&roster, &[0, 1, 9], &mut out)), 0);
+    assert_eq!(rt; answer(windows(&roster, &[0, 1, 9], &mut out)), 0);
     assert_eq!(rt; out, [5, 15, 9]);
 }
 
 #[test]
 fn no_tasks(rt: HostRuntime) {
     let mut out = [9; 1];
-    assert_eq!(rt; call_answer(windows(&Roster::new(), &[], &mut out)), 0);
+    assert_eq!(rt; answer(windows(&Roster::new(), &[], &mut out)), 0);
     assert_eq!(rt; out, [9]);
 }
 
@@ -34,7 +35,7 @@ fn jitter_up_to_the_deadline(rt: HostRuntime) {
         0
     );
     let mut out = [9; 2];
-    assert_eq!(rt; call_answer(windows(&roster, &[0, 0], &mut out)), 0);
+    assert_eq!(rt; answer(windows(&roster, &[0, 0], &mut out)), 0);
     assert_eq!(rt; out, [0, 10]);
 }
 
@@ -45,10 +46,10 @@ fn blocking(rt: HostRuntime) {
     let mut out = [0; 2];
     assert_eq!(rt; answer(roster.enter_section(section(3, 0, 8))), 0);
     assert_eq!(rt; answer(roster.enter_section(section(7, 1, 6))), 0);
-    assert_eq!(rt; call_answer(windows(&roster, &[0, 1], &mut out)), 0);
+    assert_eq!(rt; answer(windows(&roster, &[0, 1], &mut out)), 0);
     assert_eq!(rt; out, [5, 15]);
     assert_eq!(rt; answer(roster.enter_section(section(7, 0, 6))), 0);
-    assert_eq!(rt; call_answer(windows(&roster, &[0, 1], &mut out)), 0);
+    assert_eq!(rt; answer(windows(&roster, &[0, 1], &mut out)), 0);
     assert_eq!(rt; out, [11, 15]);
 }
 
@@ -75,6 +76,6 @@ fn a_processor_that_is_full(rt: HostRuntime) {
     assert_eq!(rt; answer(roster.enter(busy)), 0);
     assert_eq!(rt; answer(roster.enter(starved)), 0);
     let mut out = [9; 2];
-    assert_eq!(rt; call_answer(windows(&roster, &[0, 0], &mut out)), 0);
+    assert_eq!(rt; answer(windows(&roster, &[0, 0], &mut out)), 0);
     assert_eq!(rt; out, [1, 0]);
 }

@@ -1,12 +1,14 @@
-use crate::sample::*;
+use crate::small::*;
 use model::kinds::Task;
 use model::roster::Roster;
+use sample::{answer, section};
 use schedulability::density::Density;
 use schedulability::floors::Floored;
 use schedulability::margin::Margin;
 use schedulability::pair::Pair;
 use schedulability::response::Response;
 use schedulability::test::Test;
+use std::process::Abort;
 
 // One step of 1,000 kHz, and one task that runs all the time.
 fn full() -> Roster {
@@ -22,21 +24,28 @@ fn full() -> Roster {
     roster
 }
 
+// A list that is too short or names no step is a no, and what is past the tasks is not read.
+fn check_lists<T: Test>(rt: &impl Abort, test: &T) {
+    let roster = full();
+    assert!(rt; !test.ask(&roster, &[]));
+    assert!(rt; !test.ask(&roster, &[1]));
+    assert!(rt; test.ask(&roster, &[0, 9]));
+}
+
 #[test]
 fn lists_that_are_no_sets(rt: HostRuntime) {
-    let roster = full();
-    assert!(rt; !Response.ask(&roster, &[]));
-    assert!(rt; !Response.ask(&roster, &[1]));
-    assert!(rt; Response.ask(&roster, &[0, 9]));
-    assert!(rt; !Density.ask(&roster, &[]));
-    assert!(rt; !Density.ask(&roster, &[1]));
-    assert!(rt; Density.ask(&roster, &[0, 9]));
+    check_lists(&rt, &Response);
+    check_lists(&rt, &Density);
+}
+
+fn check_no_tasks<T: Test>(rt: &impl Abort, test: &T) {
+    assert!(rt; test.ask(&Roster::new(), &[]));
 }
 
 #[test]
 fn no_tasks(rt: HostRuntime) {
-    assert!(rt; Response.ask(&Roster::new(), &[]));
-    assert!(rt; Density.ask(&Roster::new(), &[]));
+    check_no_tasks(&rt, &Response);
+    check_no_tasks(&rt, &Density);
 }
 
 // The whole processor is enough, and one release more is too much.
@@ -78,23 +87,20 @@ fn density_wants_no_jitter_and_no_section(rt: HostRuntime) {
     assert!(rt; !Density.ask(&roster, &[0, 0]));
 }
 
+// Whether the first step passes under a margin.
+fn passes_with(percent: u32, roster: &Roster) -> bool {
+    let margin = Margin {
+        percent,
+        below: Response,
+    };
+    margin.ask(roster, &[0])
+}
+
 #[test]
 fn margins(rt: HostRuntime) {
     let mut roster = full();
-    assert!(rt;
-        Margin {
-            percent: 0,
-            below: Response,
-        }
-        .ask(&roster, &[0])
-    );
-    assert!(rt;
-        !Margin {
-            percent: 1,
-            below: Response,
-        }
-        .ask(&roster, &[0])
-    );
+    assert!(rt; passes_with(0, &roster));
+    assert!(rt; !passes_with(1, &roster));
     assert_eq!(rt;
         answer(roster.alter(Task {
             cycles: 50,
@@ -106,20 +112,8 @@ fn margins(rt: HostRuntime) {
         })),
         0
     );
-    assert!(rt;
-        Margin {
-            percent: 100,
-            below: Response,
-        }
-        .ask(&roster, &[0])
-    );
-    assert!(rt;
-        Margin {
-            percent: 4_000_000_000,
-            below: Response,
-        }
-        .ask(&roster, &[0])
-    );
+    assert!(rt; passes_with(100, &roster));
+    assert!(rt; passes_with(4_000_000_000, &roster));
     let twice = Margin {
         percent: 50,
         below: Margin {
@@ -144,13 +138,7 @@ fn margin_past_the_bound(rt: HostRuntime) {
     };
     assert_eq!(rt; answer(roster.enter(long)), 0);
     assert!(rt; Response.ask(&roster, &[0]));
-    assert!(rt;
-        !Margin {
-            percent: 1,
-            below: Response,
-        }
-        .ask(&roster, &[0])
-    );
+    assert!(rt; !passes_with(1, &roster));
     assert_eq!(rt;
         answer(roster.alter(Task {
             cycles: 99_009_900,
@@ -158,13 +146,7 @@ fn margin_past_the_bound(rt: HostRuntime) {
         })),
         0
     );
-    assert!(rt;
-        Margin {
-            percent: 1,
-            below: Response,
-        }
-        .ask(&roster, &[0])
-    );
+    assert!(rt; passes_with(1, &roster));
 }
 
 #[test]

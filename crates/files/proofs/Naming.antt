@@ -1,9 +1,10 @@
 -- Lines of names: their items, and how one more of them is read.
-use Rattle.std.proofs.Common.{◌≡◌, ℕ, zero, suc, ◌+◌, ◌-◌, ◌<◌, ◌≤◌, cond, List, [], ◌∷◌, ◌++◌, map, length, get_or, take, drop, set, sym, refl, ap, ◌∙◌, subst, inl, inr, arith}
-use Rattle.std.specs.List.{AllByRecursion}
+use Rattle.std.proofs.Common.{◌≡◌, ℕ, zero, suc, ◌+◌, ◌<◌, ◌≤◌, cond, List, [], ◌∷◌, ◌++◌, map, length, get_or, take, drop, set, ◌≢◌, Some, None, Option, MatchOption, sym, refl, ap, ◌∙◌, subst, inl, inr, arith}
+use Rattle.std.specs.Borrow.{Bor}
+use Rattle.std.specs.List.{AllByRecursion, AllWithin, HoldsAt}
 use Rattle.std.specs.Str.{bytes_eq}
 use Rattle.std.proofs.ByRecursion.{All-from_get_or, All-get_or, All-map, All-push, All-weaker}
-use Rattle.std.proofs.lemmas.List.{drop_more, get_or_default, get_or-map, get_or-take, length-drop, length-map, length_push, map_push, take_all, take_more, take_more_set}
+use Rattle.std.proofs.lemmas.List.{drop_more, get_or_default, get_or-map, get_or-take, length-drop, length-map, length-take, length_push, map_push, take_all, take_more, take_more_set}
 use Rattle.model.specs.Lists.{Pairwise}
 use Rattle.model.proofs.Lists.{pairwise_getD, pairwise_push}
 use Rattle.text.specs.Lines.{space, Free, parts, joined}
@@ -15,15 +16,16 @@ use Rattle.files.specs.Columns.{Adds, AddsNone}
 use Rattle.files.specs.Layout.{Names}
 use Rattle.files.proofs.Orders.{Apart}
 
--- ---- the items of a line, one after another
+-- ---- what an iterator has left of a list
 
-pub item_next : (ps left rest : List (List ℕ)) (item : List ℕ) (i : ℕ) → i < length ps → left ≡ drop i ps → left ≡ item ∷ rest → (get_or ps i [] ≡ item) × (rest ≡ drop (i + 1) ps)
-item_next ps left rest item i lt e f =
-    let more = drop_more ps i [] lt in
-    (cc, cc)
+pub next_at : {A : Type 0} (xs left rest : List A) (x d : A) (i : ℕ) → left ≡ drop i xs → left ≡ x ∷ rest → (i < length xs) × (get_or xs i d ≡ x) × (rest ≡ drop (i + 1) xs)
+next_at xs left rest x d i e f =
+    let lt : i < length xs = omega (arith, length-drop i xs, ap length (sym f ∙ e)) in
+    let more = drop_more xs i d lt in
+    (lt, cc, cc)
 
-pub items_left : (ps left : List (List ℕ)) (i : ℕ) → i < length ps → left ≡ drop i ps → left ≡ [] → ⊥
-items_left ps left i lt e f = omega (arith, length-drop i ps, ap length (sym e ∙ f))
+pub past_end : {A : Type 0} (xs left : List A) (i : ℕ) → left ≡ drop i xs → left ≡ [] → length xs ≤ i
+past_end xs left i e f = omega (arith, length-drop i xs, ap length (sym e ∙ f))
 
 -- ---- names
 
@@ -53,6 +55,34 @@ placed Sections (suc (suc (suc k))) lt = absurd (omega arith)
 
 same_column : (b : Block) (j k : ℕ) → j < width b → k < width b → name_of b j ≡ name_of b k → j ≡ k
 same_column b j k low lt e = sym (placed b j low) ∙ ap (place (names b)) e ∙ placed b k lt
+
+-- a table that has the names of a block
+abbrev pub Lists : Block → List (Bor (List ℕ)) → Type 0
+Lists b table = map (λ n. n.now) table ≡ names b
+
+table_some : {A : Type 0} (xs : List A) (k : ℕ) → k < length xs → A
+table_some [] k lt = absurd (omega arith)
+table_some (x ∷ xs) k lt = x
+
+module _ (b : Block) (table : List (Bor (List ℕ))) (lists : Lists b table) where
+  table_wide : length table ≡ width b
+  table_wide = sym (length-map table (λ n. n.now)) ∙ ap length lists
+
+  table_at : (k : ℕ) (d : Bor (List ℕ)) → k < width b → (get_or table k d).now ≡ name_of b k
+  table_at k d lt = sym (get_or-map (λ n. n.now) table k d [] (omega (arith, table_wide))) ∙ ap (λ ns. get_or ns k []) lists
+
+  -- the first name of the table that is the same is the column's
+  pub column_of : (name : List ℕ) (r : Option ℕ)
+      → MatchOption r (AllWithin (λ n. n.now ≢ name) table 0 (length table)) (λ k. (k < length table) × HoldsAt (λ n. n.now ≡ name) table k × AllWithin (λ n. n.now ≢ name) table 0 k)
+      → MatchOption r ((k : ℕ) → k < width b → name ≢ name_of b k) (λ k. (k < width b) × (name ≡ name_of b k))
+  column_of name None none = λ k lt e.
+      let within : k < length table = omega (arith, table_wide) in
+      let d = table_some table k within in
+      none k d (omega arith) within (table_at k d lt ∙ sym e)
+  column_of name (Some k) (within, is, _) =
+      let lt : k < width b = omega (arith, table_wide) in
+      let d = table_some table k within in
+      (lt, sym (is d) ∙ table_at k d lt)
 
 width_some : (b : Block) → 0 < width b
 width_some Switch = omega arith
@@ -108,11 +138,9 @@ pub record Named (b : Block) (seen : List ℕ) (items : List (List ℕ)) (i : �
   pub named : map (name_of b) seen ≡ take i items
 
 -- one more column behind those in the front of an array
-pub named_more : (b : Block) (o item : List ℕ) (items : List (List ℕ)) (i k : ℕ) → i < length items → i < length o → Named b (take i o) items i → get_or items i [] ≡ item → Adds b (take (i - 0) o) item k → Named b (take (i + 1) (set o i k)) items (i + 1)
-named_more b o item items i k lt room is at adds =
-    let from : i - 0 ≡ i = omega arith in
+pub named_more : (b : Block) (o item : List ℕ) (items : List (List ℕ)) (i k : ℕ) → i < length items → i < length o → Named b (take i o) items i → get_or items i [] ≡ item → Adds b (take i o) item k → Named b (take (i + 1) (set o i k)) items (i + 1)
+named_more b o item items i k lt room is at (low, e, fresh) =
     let seen = take i o in
-    let (low, e, fresh) : Adds b seen item k = subst (λ (n : ℕ). Adds b (take n o) item k) from adds in
     let more = take_more items i [] lt in
     let was = is.named in
     let named : map (name_of b) (seen ++ (k ∷ [])) ≡ take (i + 1) items = map_push (name_of b) seen k ∙ cc in
@@ -124,9 +152,10 @@ named_more b o item items i k lt room is at adds =
     } in
     subst (λ (ks : List ℕ). Named b ks items (i + 1)) (sym (take_more_set o i k room)) all
 
-none_next : (b : Block) (seen text : List ℕ) (i : ℕ) → i < width b → Named b seen (parts space text) i → AddsNone b seen (get_or (parts space text) i []) → (order : List ℕ) → Names b order text → ⊥
-none_next b seen text i lt is (inl none) order line = none (get_or order i 0) (below_at b order text line i lt) (name_at b order text line i lt)
-none_next b seen text i lt is (inr (k, low, e, (j, within, at))) order line =
+-- a line with an item that adds no column names none in an order
+pub named_none : (b : Block) (seen text : List ℕ) (i : ℕ) → i < width b → Named b seen (parts space text) i → AddsNone b seen (get_or (parts space text) i []) → (order : List ℕ) → Names b order text → ⊥
+named_none b seen text i lt is (inl none) order line = none (get_or order i 0) (below_at b order text line i lt) (name_at b order text line i lt)
+named_none b seen text i lt is (inr (k, low, e, (j, within, at))) order line =
     let early : j < i = omega (arith, is.whole) in
     let ps = parts space text in
     let again : get_or ps j [] ≡ name_of b k =
@@ -136,14 +165,13 @@ none_next b seen text i lt is (inr (k, low, e, (j, within, at))) order line =
     ∙ ap (name_of b) (at 0) in
     names_apart b order text line j i early lt (again ∙ sym e)
 
-pub named_none : (b : Block) (o text item : List ℕ) (i : ℕ) → i < width b → Named b (take i o) (parts space text) i → get_or (parts space text) i [] ≡ item → AddsNone b (take (i - 0) o) item → (order : List ℕ) → Names b order text → ⊥
-named_none b o text item i lt is at none =
-    let from : i - 0 ≡ i = omega arith in
-    none_next b (take i o) text i lt is
-    (subst (λ (x : List ℕ). AddsNone b (take i o) x) (sym at) (subst (λ (n : ℕ). AddsNone b (take n o) item) from none))
-
-pub named_all : (b : Block) (seen text : List ℕ) → length (parts space text) ≡ width b → Named b seen (parts space text) (width b) → Names b seen text
-named_all b seen text count is = record {
-  isorder = record { whole = is.whole; below = is.below; once = is.once };
-  written = sym (joined_parts space text) ∙ ap (joined space) (sym (is.named ∙ take_all (width b) (parts space text) (omega arith)));
-}
+pub named_all : (b : Block) (seen text : List ℕ) (i : ℕ) → length (parts space text) ≡ width b → drop i (parts space text) ≡ [] → Named b seen (parts space text) i → (i ≡ width b) × Names b seen text
+named_all b seen text i count end is =
+    let ps = parts space text in
+    let past : i ≡ length ps = omega (arith, length-drop i ps, ap length end, is.whole, ap length is.named, length-map seen (name_of b), length-take i ps) in (
+      past ∙ count,
+      record {
+        isorder = record { whole = is.whole ∙ past ∙ count; below = is.below; once = is.once };
+        written = sym (joined_parts space text) ∙ ap (joined space) (sym (is.named ∙ take_all i ps (omega arith)));
+      },
+    )

@@ -12,7 +12,7 @@ use Rattle.model.specs.declared.kinds.Task.{Task}
 use Rattle.model.specs.declared.kinds.Section.{Section}
 use Rattle.model.specs.declared.refusals.StepsRefusal.TheVariants.{Count, Range, Falling}
 use Rattle.model.specs.declared.refusals.RosterRefusal.TheVariants.{Bound, Deadline, Floor, Taken, Absent, TasksFull, Overlong, SectionTaken, SectionsFull}
-use Rattle.model.specs.Bounds.{max_sections}
+use Rattle.model.specs.Bounds.{max_sections, max_tasks}
 use Rattle.model.specs.Calls.{LoadRule, loaded, EnterRule, joined_by, entered, AlterRule, replaced_by, altered, struck, SectionRule, section_entered, section_struck}
 use Rattle.model.specs.Lists.{Pairwise}
 use Rattle.model.specs.Lookup.{rank}
@@ -47,6 +47,28 @@ same_system switch steps tasks sections = rw (steps, tasks, sections)
 pub keeps_at : {s n : System} → n ≡ s → Keeps s → ∥ Keeps n ∥₁
 keeps_at e k = rw e (∣ k ∣₁)
 
+-- the same steps with other tasks and sections that keep the rules
+pub keeps_with : (s : System) (tasks : List Task) (sections : List Section) → Keeps s
+    → length tasks ≤ max_tasks → AllByRecursion TaskBounded tasks → AllByRecursion Ordered tasks → AllByRecursion (FloorFits (length s.steps)) tasks → Pairwise MoreUrgent tasks
+    → length sections ≤ max_sections → AllByRecursion SectionBounded sections → AllByRecursion (Owned tasks) sections → Pairwise Apart sections
+    → Keeps (system s.steps s.switch tasks sections)
+keeps_with s tasks sections k few_tasks bounded ordered floors rising few_sections sections_bounded owned apart = record {
+  some_step = k.some_step;
+  few_steps = k.few_steps;
+  in_range = k.in_range;
+  falling = k.falling;
+  short_switch = k.short_switch;
+  few_tasks = few_tasks;
+  bounded = bounded;
+  ordered = ordered;
+  floors = floors;
+  rising = rising;
+  few_sections = few_sections;
+  sections_bounded = sections_bounded;
+  owned = owned;
+  apart = apart;
+}
+
 -- ---- entering a task
 
 all_joined : (P : Task → Type 0) (t : Task) (tasks : List Task) → P t → AllByRecursion P tasks → AllByRecursion P (joined_by t tasks)
@@ -79,22 +101,16 @@ keeps_entered s t k rule =
     let joins = inserted_joins t s.tasks k.rising other in
     let long : length (joined_by t s.tasks) ≡ length s.tasks + 1 =
     ap length (sym joins) ∙ length-insert s.tasks (rank t.priority s.tasks) t (prefix_len-le-length (before t.priority) s.tasks) in
-    record {
-      some_step = k.some_step;
-      few_steps = k.few_steps;
-      in_range = k.in_range;
-      falling = k.falling;
-      short_switch = k.short_switch;
-      few_tasks = omega (arith, rule TasksFull);
-      bounded = all_joined TaskBounded t s.tasks (rule Bound) k.bounded;
-      ordered = all_joined Ordered t s.tasks (rule Deadline) k.ordered;
-      floors = all_joined (FloorFits (length s.steps)) t s.tasks (rule Floor) k.floors;
-      rising = rising_joined t s.tasks k.rising;
-      few_sections = k.few_sections;
-      sections_bounded = k.sections_bounded;
-      owned = All-weaker (Owned s.tasks) (Owned (joined_by t s.tasks)) (owned_joined t s.tasks k.rising other) s.sections k.owned;
-      apart = k.apart;
-    }
+    keeps_with s (joined_by t s.tasks) s.sections k
+    (omega (arith, rule TasksFull))
+    (all_joined TaskBounded t s.tasks (rule Bound) k.bounded)
+    (all_joined Ordered t s.tasks (rule Deadline) k.ordered)
+    (all_joined (FloorFits (length s.steps)) t s.tasks (rule Floor) k.floors)
+    (rising_joined t s.tasks k.rising)
+    k.few_sections
+    k.sections_bounded
+    (All-weaker (Owned s.tasks) (Owned (joined_by t s.tasks)) (owned_joined t s.tasks k.rising other) s.sections k.owned)
+    k.apart
 
 -- ---- altering a task
 
@@ -119,22 +135,17 @@ owned_replaced new tasks c fits owned =
     rw same (go (task_at c.owner tasks) (λ t e. eqb-true t.priority c.owner (first_by_passes test tasks t e)) owned)
 
 pub keeps_altered : (s : System) (t : Task) → Keeps s → AllKept (AlterRule s t) → Keeps (altered s t)
-keeps_altered s t k rule = record {
-  some_step = k.some_step;
-  few_steps = k.few_steps;
-  in_range = k.in_range;
-  falling = k.falling;
-  short_switch = k.short_switch;
-  few_tasks = rw (length-map s.tasks (replaced_by t)) k.few_tasks;
-  bounded = all_replaced TaskBounded t s.tasks (rule Bound) k.bounded;
-  ordered = all_replaced Ordered t s.tasks (rule Deadline) k.ordered;
-  floors = all_replaced (FloorFits (length s.steps)) t s.tasks (rule Floor) k.floors;
-  rising = pairwise_map MoreUrgent (replaced_by t) (λ a b h. rw (replaced_priority t a, replaced_priority t b) h) s.tasks k.rising;
-  few_sections = k.few_sections;
-  sections_bounded = k.sections_bounded;
-  owned = all_both (TakesIn t) (Owned s.tasks) (Owned (map (replaced_by t) s.tasks)) (owned_replaced t s.tasks) s.sections (rule Overlong) k.owned;
-  apart = k.apart;
-}
+keeps_altered s t k rule =
+    keeps_with s (map (replaced_by t) s.tasks) s.sections k
+    (rw (length-map s.tasks (replaced_by t)) k.few_tasks)
+    (all_replaced TaskBounded t s.tasks (rule Bound) k.bounded)
+    (all_replaced Ordered t s.tasks (rule Deadline) k.ordered)
+    (all_replaced (FloorFits (length s.steps)) t s.tasks (rule Floor) k.floors)
+    (pairwise_map MoreUrgent (replaced_by t) (λ a b h. rw (replaced_priority t a, replaced_priority t b) h) s.tasks k.rising)
+    k.few_sections
+    k.sections_bounded
+    (all_both (TakesIn t) (Owned s.tasks) (Owned (map (replaced_by t) s.tasks)) (owned_replaced t s.tasks) s.sections (rule Overlong) k.owned)
+    k.apart
 
 -- ---- striking a task
 
@@ -148,43 +159,22 @@ pub keeps_struck : (s : System) (p : ℕ) → Keeps s → Keeps (struck s p)
 keeps_struck s p k =
     let rest = other_priority p in
     let left = other_owner p in
-    record {
-      some_step = k.some_step;
-      few_steps = k.few_steps;
-      in_range = k.in_range;
-      falling = k.falling;
-      short_switch = k.short_switch;
-      few_tasks = omega (arith, length_kept_by_le rest s.tasks, k.few_tasks);
-      bounded = all_kept_by rest TaskBounded s.tasks k.bounded;
-      ordered = all_kept_by rest Ordered s.tasks k.ordered;
-      floors = all_kept_by rest (FloorFits (length s.steps)) s.tasks k.floors;
-      rising = pairwise_kept_by MoreUrgent rest s.tasks k.rising;
-      few_sections = omega (arith, length_kept_by_le left s.sections, k.few_sections);
-      sections_bounded = all_kept_by left SectionBounded s.sections k.sections_bounded;
-      owned = all_kept_with left (Owned s.tasks) (Owned (filter rest s.tasks)) (owned_struck p s.tasks) s.sections k.owned;
-      apart = pairwise_kept_by Apart left s.sections k.apart;
-    }
+    keeps_with s (filter rest s.tasks) (filter left s.sections) k
+    (omega (arith, length_kept_by_le rest s.tasks, k.few_tasks))
+    (all_kept_by rest TaskBounded s.tasks k.bounded)
+    (all_kept_by rest Ordered s.tasks k.ordered)
+    (all_kept_by rest (FloorFits (length s.steps)) s.tasks k.floors)
+    (pairwise_kept_by MoreUrgent rest s.tasks k.rising)
+    (omega (arith, length_kept_by_le left s.sections, k.few_sections))
+    (all_kept_by left SectionBounded s.sections k.sections_bounded)
+    (all_kept_with left (Owned s.tasks) (Owned (filter rest s.tasks)) (owned_struck p s.tasks) s.sections k.owned)
+    (pairwise_kept_by Apart left s.sections k.apart)
 
 -- ---- sections
 
 -- the same steps and tasks with other sections that keep the rules
 keeps_sections : (s : System) (sections : List Section) → Keeps s → length sections ≤ max_sections → AllByRecursion SectionBounded sections → AllByRecursion (Owned s.tasks) sections → Pairwise Apart sections → Keeps (system s.steps s.switch s.tasks sections)
-keeps_sections s sections k few bounded owned apart = record {
-  some_step = k.some_step;
-  few_steps = k.few_steps;
-  in_range = k.in_range;
-  falling = k.falling;
-  short_switch = k.short_switch;
-  few_tasks = k.few_tasks;
-  bounded = k.bounded;
-  ordered = k.ordered;
-  floors = k.floors;
-  rising = k.rising;
-  few_sections = few;
-  sections_bounded = bounded;
-  owned = owned;
-  apart = apart;
-}
+keeps_sections s sections k = keeps_with s s.tasks sections k k.few_tasks k.bounded k.ordered k.floors k.rising
 
 -- what holds of an owner, where there is one, holds of one that stands
 of_owner : (o : Option Task) (P : Task → Type 0) → is_some o ≡ true → IfSome o P → MatchOption o ⊥ P

@@ -1,12 +1,11 @@
 -- Laws of Pairwise and first_by, and more on kept-by.
-use Rattle.std.proofs.Common.{◌≡◌, ℕ, zero, suc, ◌+◌, ◌-◌, ◌<◌, ◌≤◌, Bool, true, false, cond, List, [], ◌∷◌, ◌++◌, map, length, get_or, take, is_some, Some, None, filter, Option, sym, refl, ap, ◌∙◌, ⊎_elim, arith}
+use Rattle.std.proofs.Common.{◌≡◌, ℕ, zero, suc, ◌+◌, ◌<◌, ◌≤◌, Bool, true, false, cond, ◌||◌, Decides, List, [], ◌∷◌, ◌++◌, map, length, get_or, is_some, Some, None, filter, Option, sym, refl, ap, ◌∙◌, ⊎_elim, arith}
 use native.Mathlib.Numerals.{unary_clauses}
 use Rattle.std.specs.Option.{option_map}
-use Rattle.std.specs.List.{AllByRecursion}
-use Rattle.std.proofs.ByRecursion.{All-append, All-get_or, all_kept_by}
-use Rattle.std.proofs.lemmas.List.{take_more, length-take-le, get_or-take}
+use Rattle.std.specs.List.{AllAdjacentBelow, AllByRecursion, IsAllAdjacentAnswer, list_any}
+use Rattle.std.proofs.ByRecursion.{All-append, All-get_or, All-weaker, all_kept_by}
 use Rattle.std.proofs.lemmas.List.Sums.{length-filter, count_by-le-length}
-use Rattle.std.proofs.lemmas.Bool.{cases_Bool, both_ways}
+use Rattle.std.proofs.lemmas.Bool.{cases_Bool, both_ways, false≢true}
 use Rattle.model.specs.Lists.{Pairwise, first_by}
 
 -- ---- what holds of each item
@@ -14,10 +13,6 @@ use Rattle.model.specs.Lists.{Pairwise, first_by}
 pub all_both : {X : Type 0} (P Q S : X → Type 0) → ((x : X) → P x → Q x → S x) → (xs : List X) → AllByRecursion P xs → AllByRecursion Q xs → AllByRecursion S xs
 all_both P Q S f [] p q = tt
 all_both P Q S f (x ∷ xs) p q = (f x p.0 q.0, all_both P Q S f xs p.1 q.1)
-
-pub map_same : {X Y : Type 0} (P : X → Type 0) (f g : X → Y) → ((x : X) → P x → f x ≡ g x) → (xs : List X) → AllByRecursion P xs → map f xs ≡ map g xs
-map_same P f g same [] h = refl
-map_same P f g same (x ∷ xs) h = rw (same x h.0, map_same P f g same xs h.1)
 
 module _ {X : Type 0} (keep : X → Bool) where
   pub all_kept_with : (P Q : X → Type 0) → ((x : X) → keep x ≡ true → P x → Q x) → (xs : List X) → AllByRecursion P xs → AllByRecursion Q (filter keep xs)
@@ -72,22 +67,21 @@ module _ {X : Type 0} (R : X → X → Type 0) where
   pairwise_getD (x ∷ xs) zero (suc j) d low high p = All-get_or (R x) xs j d (omega arith) p.0
   pairwise_getD (x ∷ xs) (suc i) (suc j) d low high p = pairwise_getD xs i j d (omega arith) (omega arith) p.1
 
-  -- what comes behind the last item comes behind each
-  all_by_last : ((x y z : X) → R x y → R y z → R x z) → (xs : List X) (y d : X) → 0 < length xs → Pairwise R xs → R (get_or xs (length xs - 1) d) y → AllByRecursion (λ x. R x y) xs
-  all_by_last through [] y d some p last = absurd (omega arith)
-  all_by_last through (x ∷ []) y d some p last = (last, tt)
-  all_by_last through (x ∷ (z ∷ zs)) y d some p last =
-      let rest = all_by_last through (z ∷ zs) y d (omega arith) p.1 (simp unary_clauses (simp unary_clauses at last)) in
-      (through x z y p.0.0 rest.0, rest)
+  -- where R goes on from item to item, it holds of all pairs if it holds of neighbours
+  pub pairwise_from_neighbours : ((x y z : X) → R x y → R y z → R x z) → (xs : List X) → AllAdjacentBelow R xs (length xs) → Pairwise R xs
+  pairwise_from_neighbours through [] next = tt
+  pairwise_from_neighbours through (x ∷ []) next = (tt, tt)
+  pairwise_from_neighbours through (x ∷ (y ∷ zs)) next =
+      let first : R x y = next 0 x (omega arith) in
+      let rest = pairwise_from_neighbours through (y ∷ zs) (λ k d lt. simp unary_clauses (simp unary_clauses at (next (suc k) d (omega arith)))) in
+      ((first, All-weaker (R y) (R x) (λ z h. through x y z first h) zs rest.0), rest)
 
-  -- where R goes on from item to item, one more item is compared with the last alone
-  pub pairwise_more : ((x y z : X) → R x y → R y z → R x z) → (xs : List X) (i : ℕ) (d : X) → 0 < i → i < length xs
-      → Pairwise R (take i xs) → R (get_or xs (i - 1) d) (get_or xs i d) → Pairwise R (take (i + 1) xs)
-  pairwise_more through xs i d some lt p last =
-      let front = length-take-le i xs (omega arith) in
-      let same = get_or-take i xs (i - 1) d (omega arith) in
-      let later = all_by_last through (take i xs) (get_or xs i d) d (omega arith) p (rw (front, same) last) in
-      rw (take_more xs i d lt) (pairwise_push (take i xs) (get_or xs i d) p later)
+  -- what `is_sorted_by` answers where it asks a test of R
+  pub pairwise_from_sorted : (test : X → X → Bool) → ((x y : X) → Decides (test x y) (R x y)) → ((x y z : X) → R x y → R y z → R x z) → (xs : List X) (d : X) (r : Bool) → IsAllAdjacentAnswer (λ x y b. b ≡ test x y) xs r → Decides r (Pairwise R xs)
+  pairwise_from_sorted test asks through xs d true h =
+      (λ _. pairwise_from_neighbours through xs (λ k e lt. (asks _ _).0 (sym (h k e lt))), λ _. refl)
+  pairwise_from_sorted test asks through xs d false h =
+      (λ e. absurd (false≢true e), λ all. absurd (both_ways _ (sym (h.2 d)) ((asks _ _).1 (pairwise_getD xs h.0 (h.0 + 1) d (omega arith) h.1 all))))
 
 -- ---- first_by
 
@@ -115,6 +109,14 @@ module _ {X : Type 0} (test : X → Bool) where
       (λ t. let found = rw t at e in let same : y ≡ x = cc in rw (← same) t)
       (λ f. first_by_passes ys x (rw f at e))
       (cases_Bool (test y))
+
+  some_or : (b : Bool) (x : X) (o : Option X) → is_some (cond b (Some x) o) ≡ (b || is_some o)
+  some_or true x o = refl
+  some_or false x o = refl
+
+  pub first_by_any : (xs : List X) → is_some (first_by test xs) ≡ list_any test xs
+  first_by_any [] = refl
+  first_by_any (x ∷ xs) = some_or (test x) x (first_by test xs) ∙ ap (λ b. test x || b) (first_by_any xs)
 
   mapped_cond : (f : X → X) (b : Bool) (x : X) (o : Option X) → cond b (Some (f x)) (option_map f o) ≡ option_map f (cond b (Some x) o)
   mapped_cond f true x o = refl

@@ -25,6 +25,20 @@ LoadRule steps switch Falling = Pairwise Above steps
 abbrev pub loaded : List Step → ℕ → System
 loaded steps switch = system steps switch [] []
 
+-- ---- what entering and altering both ask of a task, on a table of `steps` steps
+
+abbrev pub TaskRule : ℕ → Task → RosterRefusal → Type 0
+TaskRule steps t Bound = TaskBounded t
+TaskRule steps t Deadline = Ordered t
+TaskRule steps t Floor = FloorFits steps t
+TaskRule steps t Taken = Unit {0}
+TaskRule steps t Absent = Unit {0}
+TaskRule steps t TasksFull = Unit {0}
+TaskRule steps t Overlong = Unit {0}
+TaskRule steps t SectionTaken = Unit {0}
+TaskRule steps t SectionAbsent = Unit {0}
+TaskRule steps t SectionsFull = Unit {0}
+
 -- ---- enter a task
 
 abbrev pub EnterRule : System → Task → RosterRefusal → Type 0

@@ -9,14 +9,14 @@ pub const MAX_TASKS: usize = 16;
 pub const MAX_SECTIONS: usize = 32;
 
 // A clock step: its clock in kHz, and the voltage it needs in centivolts.
-#[derive(Clone, Copy)]
+#[derive(Clone, Copy, PartialEq, Eq, Default, Debug)]
 pub struct Step {
     pub clock: u32,
     pub voltage: u32,
 }
 
 // A periodic task. Times are in microseconds, and a smaller priority number is more urgent.
-#[derive(Clone, Copy)]
+#[derive(Clone, Copy, PartialEq, Eq, Default, Debug)]
 pub struct Task {
     pub priority: u32,
     pub cycles: u32,
@@ -29,7 +29,7 @@ pub struct Task {
 }
 
 // A stretch of a task that holds a resource; the owner is named by its priority.
-#[derive(Clone, Copy)]
+#[derive(Clone, Copy, PartialEq, Eq, Default, Debug)]
 pub struct Section {
     pub owner: u32,
     pub resource: u32,
@@ -41,10 +41,9 @@ impl Task {
     pub fn rewrite(&mut self, new: Task)
         ensures { self.new ≡ rewritten new self.old }
     {
-        self.cycles = new.cycles;
-        self.period = new.period;
-        self.deadline = new.deadline;
-        self.jitter = new.jitter;
-        self.floor = new.floor;
+        *self = Task {
+            priority: self.priority,
+            ..new
+        };
     }
 }

@@ -8,22 +8,18 @@ use crate::kinds::Task;
 pub(crate) fn rank(tasks: &[Task], priority: u32) -> usize
     ensures { result ≡ place priority tasks.now }
 {
-    for (i, task) in tasks.iter().enumerate() {
-        if task.priority >= priority {
-            return i;
-        }
-    }
-    tasks.len()
+    tasks
+        .iter()
+        .take_while(|task| task.priority < priority)
+        .count()
 }
 
 // The place of a priority; nothing behind the first number that is not smaller is read.
+// No binary search: the promise covers a list in any order.
 pub fn find(tasks: &[Task], priority: u32) -> Option<usize>
     ensures { Finds tasks.now priority result }
 {
     let at = rank(tasks, priority);
-    if at < tasks.len() && tasks[at].priority == priority {
-        Some(at)
-    } else {
-        None
-    }
+    let task = tasks.get(at)?;
+    (task.priority == priority).then_some(at)
 }

@@ -9,6 +9,7 @@ pub mod calls;
 mod growth;
 mod judges;
 
+// Contracts say `of self.now`, with no `impl Model`: a Copy type's view has to give back every field, and `of` forgets a table's unused places.
 #[derive(Clone, Copy)]
 pub struct Roster {
     steps: Table<Step, MAX_STEPS>,

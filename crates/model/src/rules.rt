@@ -13,34 +13,26 @@ const MAX_CLOCK: u32 = 2_000_000;
 
 const MAX_VOLTAGE: u32 = 500;
 
-pub const MAX_SWITCH: u32 = 1_000_000;
+pub(crate) const MAX_SWITCH: u32 = 1_000_000;
 
 const MAX_PERIOD: u32 = 100_000_000;
 
-pub const MAX_CYCLES: u32 = 100_000_000;
+pub(crate) const MAX_CYCLES: u32 = 100_000_000;
 
-pub const MAX_PRIORITY: u32 = 255;
+pub(crate) const MAX_PRIORITY: u32 = 255;
 
-pub const MAX_RESOURCE: u32 = 7;
+pub(crate) const MAX_RESOURCE: u32 = 7;
 
 fn in_range(step: &Step) -> bool
     ensures { Decides result (InRange step.now) }
 {
-    step.clock >= MIN_CLOCK
-        && step.clock <= MAX_CLOCK
-        && step.voltage >= 1
-        && step.voltage <= MAX_VOLTAGE
+    (MIN_CLOCK..=MAX_CLOCK).contains(&step.clock) && (1..=MAX_VOLTAGE).contains(&step.voltage)
 }
 
 pub(crate) fn all_in_range(steps: &[Step]) -> bool
     ensures { Decides result (AllByRecursion InRange steps.now) }
 {
-    for step in steps {
-        if !in_range(step) {
-            return false;
-        }
-    }
-    true
+    steps.iter().all(in_range)
 }
 
 fn above(earlier: &Step, later: &Step) -> bool
@@ -52,22 +44,15 @@ fn above(earlier: &Step, later: &Step) -> bool
 pub(crate) fn falling(steps: &[Step]) -> bool
     ensures { Decides result (Pairwise Above steps.now) }
 {
-    for i in 1..steps.len() {
-        if !above(&steps[i - 1], &steps[i]) {
-            return false;
-        }
-    }
-    true
+    steps.is_sorted_by(above)
 }
 
 pub(crate) fn task_bounded(task: &Task) -> bool
     ensures { Decides result (TaskBounded task.now) }
 {
     task.priority <= MAX_PRIORITY
-        && task.cycles >= 1
-        && task.cycles <= MAX_CYCLES
-        && task.period >= 1
-        && task.period <= MAX_PERIOD
+        && (1..=MAX_CYCLES).contains(&task.cycles)
+        && (1..=MAX_PERIOD).contains(&task.period)
         && task.deadline >= 1
 }
 
@@ -80,10 +65,8 @@ pub(crate) fn ordered(task: &Task) -> bool
 pub(crate) fn floor_fits(task: &Task, steps: usize) -> bool
     ensures { Decides result (FloorFits steps task.now) }
 {
-    match task.floor {
-        None => true,
-        Some(floor) => (floor as usize) < steps,
-    }
+    // std has no `From` for a u32 as usize
+    task.floor.is_none_or(|floor| (floor as usize) < steps)
 }
 
 pub(crate) fn section_bounded(section: &Section) -> bool
@@ -102,21 +85,11 @@ pub(crate) fn within(section: &Section, task: &Task) -> bool
 pub(crate) fn holds_sections(task: &Task, sections: &[Section]) -> bool
     ensures { Decides result (AllByRecursion (TakesIn task.now) sections.now) }
 {
-    for section in sections {
-        if section.owner == task.priority && !within(section, task) {
-            return false;
-        }
-    }
-    true
+    sections.iter().all(|section| section.owner != task.priority || within(section, task))
 }
 
 pub(crate) fn section_stands(sections: &[Section], owner: u32, resource: u32) -> bool
     ensures { result ≡ is_some (section_at owner resource sections.now) }
 {
-    for section in sections {
-        if section.owner == owner && section.resource == resource {
-            return true;
-        }
-    }
-    false
+    sections.iter().any(|section| section.owner == owner && section.resource == resource)
 }

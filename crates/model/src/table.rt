@@ -3,16 +3,18 @@ ghost use Rattle.std.specs.Prelude.{◌≡◌, ◌≤◌, length, ⊤};
 
 use std::alloc::AllocError;
 
-pub mod calls;
+mod calls;
 
+// An array with a count, and not the kit's ArrayVec: a roster is Copy, an ArrayVec is not, and its clone may fail.
 #[derive(Copy)]
-pub struct Table<T: Copy, const N: usize> {
+pub(crate) struct Table<T: Copy, const N: usize> {
     items: [T; N],
     len: usize,
     ghost whole: { length items ≡ N },
     ghost within: { len ≤ N },
 }
 
+// By hand: Clone is not derived over the ghost fields of a generic struct.
 impl<T: Copy, const N: usize> Clone for Table<T, N> {
     ghost is_clone = { λ x y. y ≡ x };
 

@@ -1,13 +1,14 @@
 -- A number that ends in z zeros has in every digit the least of all numbers from it up to the next multiple of g ^ (z + 1).
-use Rattle.std.proofs.Common.{◌≡◌, ℕ, zero, suc, ◌+◌, ◌-◌, ◌*◌, ◌/◌, ◌%◌, ◌^◌, ◌<◌, ◌≤◌, min, sym, ap, ◌∙◌, inl, inr, mul-le-mul_right, mul-le-mul_left, pow-suc, div-add-mod', mul-one, div-mul-le_self, div-one, add-one, arith, pow-add}
-use native.Mathlib.Nat.{div-div-eq-div-mul, div-eq_of_lt-le, dvd-mul_left, dvd_of_mod-eq-zero, dvd_trans, mod-eq-zero_of_dvd, mod-one, mod_self, mul-mod_left, one-le-pow, pow-le-pow_right, pow-succ', pow-zero}
+use Rattle.std.proofs.Common.{◌≡◌, ℕ, zero, suc, ◌+◌, ◌-◌, ◌*◌, ◌/◌, ◌%◌, ◌^◌, ◌<◌, ◌≤◌, min, sym, ap, ◌∙◌, inl, inr, mul-le-mul_right, mul-le-mul_left, pow-suc, div-add-mod', mul-one, div-mul-le_self, div-one, add-one, arith, pow-add, add-zero, add-mul, one-mul, mod-lt, mod-eq_of_lt}
+use native.Mathlib.Nat.{div-div-eq-div-mul, div-eq_of_lt-le, dvd-mul_left, dvd_of_mod-eq-zero, dvd_trans, mod-eq-zero_of_dvd, mod-one, mod_self, mul-mod_left, one-le-pow, pow-le-pow_right, pow-succ', pow-zero, sub-zero}
 use lib.Arith.{mod-mul}
+use Rattle.std.specs.Int.{next_multiple_of}
 use Rattle.std.specs.List.{AllZip}
 use Rattle.std.proofs.lemmas.Nat.{div_below, le-div}
 use Rattle.std.proofs.lemmas.List.Elements.{AllZip-push}
 use Rattle.std.proofs.lemmas.Bool.{cases_lt, cases_order}
 use Rattle.odometer.specs.Digits.{digits, next_multiple, Zeros}
-use Rattle.odometer.proofs.Numbers.{multiple_above}
+use Rattle.odometer.proofs.Numbers.{full, multiple_above, room}
 
 -- The next multiple of g ^ k above n is a multiple, and the least above n.
 pub next_clear : (g k n : ℕ) → next_multiple g k n % g ^ k ≡ 0
@@ -18,6 +19,25 @@ next_least g k n pos m above clear =
     let whole : m / g ^ k * g ^ k ≡ m = omega (arith, div-add-mod' m (g ^ k)) in
     let less : n / g ^ k + 1 ≤ m / g ^ k = omega (arith, div_below n (g ^ k) (m / g ^ k) (one-le-pow k g pos) (omega arith)) in
     omega (arith, mul-le-mul_right (g ^ k) less)
+
+-- The least multiple of g ^ k above n is the library's least from n + 1 on.
+pub next_from : (g k n : ℕ) → 1 ≤ g → next_multiple_of (n + 1) (g ^ k) ≡ next_multiple g k n
+next_from g k n pos =
+    let p = g ^ k in
+    let some : 0 < p = one-le-pow k g pos in
+    let rest : n % p < p = mod-lt n some in
+    let whole : n / p * p + n % p ≡ n = div-add-mod' n p in
+    elim (cases_lt (n % p + 1) p) [
+      | inl l ↦
+          let last = (room p n l).1 in
+          let small : (p - (n % p + 1)) % p ≡ p - (n % p + 1) = mod-eq_of_lt (omega arith) in
+          rw (last, small, add-mul, one-mul) (omega arith)
+      | inr l ↦
+          let e : (n / p + 1) * p ≡ n + 1 = full p n (omega arith) in
+          let last : (n + 1) % p ≡ 0 = rw (← e) (mul-mod_left (n / p + 1) p) in
+          let none : (p - 0) % p ≡ 0 = rw (sub-zero, mod_self) in
+          rw (last, none, e, add-zero)
+    ]
 
 -- What a power of g divides, its lower powers divide.
 clear_lower : (g k t n : ℕ) → k ≤ t → n % g ^ t ≡ 0 → n % g ^ k ≡ 0

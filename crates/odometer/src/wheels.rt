@@ -1,24 +1,37 @@
 // An odometer of up to sixteen wheels with up to eight digits each.
-ghost use Rattle.std.specs.Prelude.{◌≡◌, ℕ, ◌^◌, ◌≤◌, length, take, slice_index};
-ghost use Rattle.odometer.specs.Digits.{digits, total};
+use std::marker::Model;
 
 pub mod calls;
 mod turns;
 
-#[derive(Clone, Copy)]
+const MAX_BASE: u8 = 8;
+
+const MAX_PLACES: usize = 16;
+
+#[derive(Clone, Copy, PartialEq, Eq, Debug)]
 pub struct Odometer {
     base: u8,
     places: usize,
     number: u64,
-    wheels: [u8; 16],
-    powers: [u64; 17],
-    // The base and the places have their bounds, the wheels show the number, and the powers are those of the base.
-    ghost some: { 1 ≤ base },
-    ghost eight: { base ≤ 8 },
-    ghost few: { places ≤ 16 },
-    ghost within: { number ≤ total base places },
-    ghost shown: { take places wheels ≡ digits base places number },
-    ghost known: { ((k : ℕ) → k ≤ 16 → slice_index powers k ≡ base ^ k) },
-    ghost sixteen: { length wheels ≡ 16 },
-    ghost seventeen: { length powers ≡ 17 },
+    // Fixed memory that is copied: `arrayvec` is not `Copy`, so the places count the wheels in use.
+    wheels: [u8; MAX_PLACES],
+}
+
+// Clauses see the base, the places and the number.
+impl Model for Odometer {
+    ghost use Rattle.odometer.specs.Counter.{Counter};
+    ghost use Rattle.std.proofs.Common.{sym};
+
+    ghost Value = { Counter };
+
+    ghost use Rattle.odometer.specs.Wheels.{counter, Kept, fields};
+
+    ghost view = { counter };
+
+    ghost invariant = { Kept };
+
+    // The view forgets the wheels only, and they follow from it.
+    ghost inverse = { fields };
+
+    ghost inverse_ok = { λ o kept i. record o { wheels = sym kept.shown i } };
 }

@@ -13,7 +13,12 @@ use Rattle.tariffs.specs.Charges.{charge_of, places}
 use Rattle.tariffs.specs.declared.amount.Amount as amounts
 use Rattle.tariffs.specs.declared.tariff.Tariff as tariffs
 use Rattle.planner.proofs.Orderly.{Orderly}
+use Rattle.planner.specs.Rates.{Rates, amount_of, tariff_of}
 use Rattle.planner.specs.State.{problem, set_of}
+
+-- the members of a tariff, put together
+abbrev pub rates : {C : Type 0} → amounts.Ghosts C → tariffs.Ghosts C → Rates C
+rates a t = record { none = a.none; joined = a.joined; leq = a.leq; within = a.within; priced = t.priced }
 
 -- each place adds one price: a sum of m prices, and so many places more, comes within n prices
 sum_within : {C : Type 0} (a : amounts.Ghosts C) (t : tariffs.Ghosts C) (s : System) → AmountLaws a.none a.joined a.leq a.within → ((s : System) (i g : ℕ) → Keeps s → a.within 1 (t.priced s i g)) → Keeps s → (xs : List (ℕ × ℕ)) (m n : ℕ) (sum : C) → n ≡ m + length xs → n ≤ max_prices → a.within m sum → a.within n (fold (λ sum x. a.joined sum (t.priced s x.0 x.1)) sum xs)
@@ -32,10 +37,10 @@ charge_counted a t s laws one keeps set =
     let few : length (places s set) ≤ max_prices = omega (arith, places_few s set keeps) in
     (length (places s set), few, sum_within a t s laws one keeps (places s set) 0 (length (places s set)) a.none (omega arith) few laws.nothing)
 
-pub orderly : {Q C : Type 0} (q : tests.Ghosts Q) (a : amounts.Ghosts C) (t : tariffs.Ghosts C) → TestLaws q.passes → AmountLaws a.none a.joined a.leq a.within → ((s : System) (i g : ℕ) → Keeps s → a.within 1 (t.priced s i g)) → (s : System) (test : Q) → Keeps s → Orderly (problem q a t s test)
-orderly q a t rules laws one s test keeps =
-    let charged = λ (n : ℕ). charge_of a t s (set_of s n) in
-    let counted = λ (n : ℕ). charge_counted a t s laws one keeps (set_of s n) in
+pub orderly : {Q C : Type 0} (q : tests.Ghosts Q) (t : Rates C) → TestLaws q.passes → AmountLaws t.none t.joined t.leq t.within → ((s : System) (i g : ℕ) → Keeps s → t.within 1 (t.priced s i g)) → (s : System) (test : Q) → Keeps s → Orderly (problem q t s test)
+orderly q t rules laws one s test keeps =
+    let charged = λ (n : ℕ). charge_of (amount_of t) (tariff_of t) s (set_of s n) in
+    let counted = λ (n : ℕ). charge_counted (amount_of t) (tariff_of t) s laws one keeps (set_of s n) in
     record {
       some_step = keeps.some_step;
       total = λ m n. laws.total (charged m) (charged n) (counted m) (counted n);

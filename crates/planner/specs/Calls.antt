@@ -7,8 +7,7 @@ use Rattle.planner.specs.declared.refusals.SearchRefusal.TheVariants.{Allowance,
 use Rattle.model.specs.Refusals.{roster_number, AllKept, First, Outcome}
 use Rattle.planner.specs.Refusals.{search_number}
 use Rattle.schedulability.specs.declared.test.Test as tests
-use Rattle.tariffs.specs.declared.amount.Amount as amounts
-use Rattle.tariffs.specs.declared.tariff.Tariff as tariffs
+use Rattle.planner.specs.Rates.{Rates}
 use Rattle.planner.specs.declared.events.Call.{Call}
 use Rattle.planner.specs.declared.events.Call.TheVariants.{Change, Plan}
 use Rattle.planner.specs.declared.events.Event.{Event}
@@ -44,12 +43,12 @@ abbrev pub call_of : Event → Call
 call_of (Changed c _) = Change c
 call_of (Planned allowance _) = Plan allowance
 
-module _ {Q C : Type 0} (q : tests.Ghosts Q) (a : amounts.Ghosts C) (t : tariffs.Ghosts C) where
+module _ {Q C : Type 0} (q : tests.Ghosts Q) (t : Rates C) where
   -- a plan call moves the search and nothing else
   pub record Moved (x : State Q C) (allowance : ℕ) (answer : Progress) (y : State Q C) : Type 0 where
     pub stands : y.stands ≡ x.stands
     pub test : y.test ≡ x.test
-    pub ran : Ran (problem q a t x.stands x.test) x.search allowance answer y.search
+    pub ran : Ran (problem q t x.stands x.test) x.search allowance answer y.search
 
   -- What an event does to a planner: an accepted change starts the search again, an accepted plan call
   -- moves it, and a refusal is due and leaves all as it was.

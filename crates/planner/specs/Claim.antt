@@ -8,15 +8,14 @@ use Rattle.planner.specs.declared.refusals.SearchRefusal.{SearchRefusal}
 use Rattle.planner.specs.declared.refusals.SearchRefusal.TheVariants.{NothingShown}
 use Rattle.timing.specs.Times.{front}
 use Rattle.schedulability.specs.declared.test.Test as tests
-use Rattle.tariffs.specs.declared.amount.Amount as amounts
-use Rattle.tariffs.specs.declared.tariff.Tariff as tariffs
+use Rattle.planner.specs.Rates.{Rates}
 use Rattle.planner.specs.declared.events.Event.{Event}
 use Rattle.planner.specs.declared.events.Event.TheVariants.{Changed, Planned}
 use Rattle.planner.specs.declared.events.Progress.{Progress}
 use Rattle.planner.specs.declared.findings.Findings.{Findings}
 use Rattle.planner.specs.declared.findings.Shown.{Shown}
 use Rattle.planner.specs.declared.mark.Mark.{Mark}
-use Rattle.planner.specs.Calls.{PlanRule}
+use Rattle.planner.specs.Calls.{PlanRule, Happens}
 use Rattle.planner.specs.Changes.{ChangeRule}
 use Rattle.planner.specs.Events.{standing, stands_after, settled_by, settled_after}
 use Rattle.planner.specs.Search.{Problem, Found, search, Cheapest, NonePasses, Shows, Marked, mark_of, Ran}
@@ -57,13 +56,13 @@ pub record Made {C : Type 0} (p : Problem C) (settled allowance : ℕ) (answer :
   pub right_after : Shows p (search answer.settled after)
   pub ran : Ran p (search settled before) allowance answer (search answer.settled after)
 
-module _ {Q C : Type 0} (q : tests.Ghosts Q) (a : amounts.Ghosts C) (t : tariffs.Ghosts C) where
+module _ {Q C : Type 0} (q : tests.Ghosts Q) (t : Rates C) where
   -- an answer is the one that the rules give for what then stood and was settled
   abbrev pub Answered : System → Q → ℕ → Event → Type 0
   Answered s test settled (Changed c r) = Verdict roster_number (ChangeRule s c) r
   Answered s test settled (Planned allowance r) =
       results.MatchResult r
-      (λ answer. AllKept (PlanRule allowance) × Made (problem q a t s test) settled allowance answer)
+      (λ answer. AllKept (PlanRule allowance) × Made (problem q t s test) settled allowance answer)
       (First search_number (PlanRule allowance))
 
   -- and so is each of a list, from what stood and was settled before it
@@ -73,7 +72,7 @@ module _ {Q C : Type 0} (q : tests.Ghosts Q) (a : amounts.Ghosts C) (t : tariffs
 
   -- what is searched after the events
   abbrev pub posed : System → Q → List Event → Problem C
-  posed opening test events = problem q a t (standing opening events) test
+  posed opening test events = problem q t (standing opening events) test
 
   -- The claim on what is told after the events, by a planner that was opened over a system and a test.
   pub record Claim (opening : System) (test : Q) (events : List Event) (r : Told C) : Type 0 where
@@ -92,6 +91,11 @@ module _ {Q C : Type 0} (q : tests.Ghosts Q) (a : amounts.Ghosts C) (t : tariffs
   -- Whatever leads to the state x leads, with one event more, to the state y.
   abbrev pub Leads : State Q C → Event → State Q C → Type 0
   Leads x e y = (opening : System) (test : Q) (events : List Event) → Led opening test events x → Led opening test (events ++ (e ∷ [])) y
+
+  -- What an event does to a planner, and that whatever led to it leads on.
+  pub record Follows (x : State Q C) (e : Event) (y : State Q C) : Type 0 where
+    pub happens : Happens q t x e y
+    pub leads : Leads x e y
 
   -- What show says of the list that it was given: a set written there is the cheapest of those settled that pass,
   -- and where nothing is shown, none of them passes.

@@ -2,6 +2,9 @@ pub mod Calls
 pub mod Changes
 pub mod Claim
 pub mod Events
+pub mod Parts
+pub mod Printed
+pub mod Rates
 pub mod Record
 pub mod Refusals
 pub mod Search

@@ -2,8 +2,7 @@
 use Rattle.std.specs.Prelude.{◌≡◌, List, [], ◌∷◌, ◌++◌, map}
 use Rattle.model.specs.System.{System}
 use Rattle.schedulability.specs.declared.test.Test as tests
-use Rattle.tariffs.specs.declared.amount.Amount as amounts
-use Rattle.tariffs.specs.declared.tariff.Tariff as tariffs
+use Rattle.planner.specs.Rates.{Rates}
 use Rattle.planner.specs.declared.events.Call.{Call}
 use Rattle.planner.specs.declared.events.Event.{Event}
 use Rattle.planner.specs.declared.replay.Entry.{Entry}
@@ -11,12 +10,12 @@ use Rattle.planner.specs.Calls.{call_of}
 use Rattle.planner.specs.Claim.{Claim, Named, told_by}
 use Rattle.planner.specs.Events.{standing}
 
-module _ {Q C : Type 0} (q : tests.Ghosts Q) (a : amounts.Ghosts C) (t : tariffs.Ghosts C) where
+module _ {Q C : Type 0} (q : tests.Ghosts Q) (t : Rates C) where
   -- the claim holds at each entry, for the events up to it
   abbrev pub Throughout : System → Q → List Event → List (Entry C) → Type 0
   Throughout opening test earlier [] = Unit {0}
   Throughout opening test earlier (e ∷ later) =
-      Claim q a t opening test (earlier ++ (e.event ∷ [])) (told_by e.findings)
+      Claim q t opening test (earlier ++ (e.event ∷ [])) (told_by e.findings)
       × Named (standing opening (earlier ++ (e.event ∷ []))) e.findings
       × Throughout opening test (earlier ++ (e.event ∷ [])) later
 

@@ -1,16 +1,12 @@
 -- What a planner says: what stands, the test, and how far the search has come.
 use Rattle.std.specs.Prelude.{◌≡◌, ℕ, List, length}
-use Rattle.model.specs.Of.{of}
 use Rattle.model.specs.System.{System}
 use Rattle.odometer.specs.Digits.{digits, total}
 use Rattle.schedulability.specs.Floors.{WithinFloors}
 use Rattle.schedulability.specs.declared.test.Test as tests
 use Rattle.tariffs.specs.Charges.{charge_of}
-use Rattle.tariffs.specs.declared.amount.Amount as amounts
-use Rattle.tariffs.specs.declared.tariff.Tariff as tariffs
-use Rattle.planner.specs.declared.planner.Planner.{Planner}
-use Rattle.planner.specs.Search.{Problem, Search, search, start, Strides}
-use Rattle.planner.specs.Shown.{found_in}
+use Rattle.planner.specs.Rates.{Rates, amount_of, tariff_of}
+use Rattle.planner.specs.Search.{Problem, Search, start, Strides}
 
 -- the steps of a set by its number: its digits in base of the count of steps, most urgent task first
 abbrev pub set_of : System → ℕ → List ℕ
@@ -25,13 +21,13 @@ abbrev pub Passes : {Q : Type 0} → tests.Ghosts Q → System → Q → List �
 Passes q s test set = WithinFloors s set × q.passes test s set
 
 -- what is searched for a system and a test, under a tariff
-abbrev pub problem : {Q C : Type 0} → tests.Ghosts Q → amounts.Ghosts C → tariffs.Ghosts C → System → Q → Problem C
-problem q a t s test = record {
+abbrev pub problem : {Q C : Type 0} → tests.Ghosts Q → Rates C → System → Q → Problem C
+problem q t s test = record {
   steps = length s.steps;
   tasks = length s.tasks;
   Passes = λ n. Passes q s test (set_of s n);
-  charge = λ n. charge_of a t s (set_of s n);
-  leq = a.leq;
+  charge = λ n. charge_of (amount_of t) (tariff_of t) s (set_of s n);
+  leq = t.leq;
 }
 
 pub record State (Q C : Type 0) : Type 0 where
@@ -42,12 +38,12 @@ pub record State (Q C : Type 0) : Type 0 where
 abbrev pub opened : {Q C : Type 0} → System → Q → State Q C
 opened s test = record { stands = s; test = test; search = start }
 
--- from the program's planner to what it says
-abbrev pub state : {Q C : Type 0} → Planner Q C → State Q C
-state p = record { stands = of p.roster; test = p.test.below; search = search p.sets.number (found_in p.shown) }
+-- what is searched in a state
+abbrev pub sought : {Q C : Type 0} → tests.Ghosts Q → Rates C → State Q C → Problem C
+sought q t x = problem q t x.stands x.test
 
 -- so many strides lead from one state to another, in which the same system and test stand
-pub record Walked {Q C : Type 0} (q : tests.Ghosts Q) (a : amounts.Ghosts C) (t : tariffs.Ghosts C) (x : State Q C) (n : ℕ) (y : State Q C) : Type 0 where
+pub record Walked {Q C : Type 0} (q : tests.Ghosts Q) (t : Rates C) (x : State Q C) (n : ℕ) (y : State Q C) : Type 0 where
   pub stands : y.stands ≡ x.stands
   pub test : y.test ≡ x.test
-  pub strides : Strides (problem q a t x.stands x.test) x.search n y.search
+  pub strides : Strides (problem q t x.stands x.test) x.search n y.search

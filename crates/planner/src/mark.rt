@@ -1,4 +1,7 @@
 // How far a search has come.
+ghost use Rattle.std.specs.Prelude.{Some};
+ghost use Rattle.planner.specs.Printed.{mark_words};
+
 use std::fmt;
 
 #[derive(Clone, Copy, PartialEq, Eq, Debug)]
@@ -12,6 +15,8 @@ pub enum Mark {
 }
 
 impl fmt::Display for Mark {
+    ghost output = { λ mark. Some (mark_words mark) };
+
     fn fmt<W: fmt::Write>(&self, f: &mut fmt::Formatter<W>) -> fmt::Result {
         f.write_str(match self {
             Mark::Open => "open",

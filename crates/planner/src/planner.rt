@@ -1,12 +1,9 @@
 // A planner: a roster and a test with the search for the cheapest set that passes.
-ghost use Rattle.std.specs.Prelude.{◌≡◌, length, Some};
-ghost use Rattle.model.specs.Held.{held};
-ghost use Rattle.planner.specs.declared.findings.Shown.{Shown as ShownSet};
-
 use crate::findings::Shown;
 use model::roster::Roster;
 use odometer::wheels::Odometer;
 use schedulability::floors::Floored;
+use std::marker::Model;
 
 pub mod calls;
 mod search;
@@ -19,9 +16,17 @@ pub struct Planner<Q, C> {
     // stands at the set that is looked at next
     sets: Odometer,
     shown: Option<Shown<C>>,
-    // The sets, and the one shown, are those of the roster.
-    ghost base: { sets.base ≡ length (held roster.steps) },
-    ghost places: { sets.places ≡ length (held roster.tasks) },
-    ghost shown_base: { ((x : ShownSet C) → shown ≡ Some x → x.at.base ≡ length (held roster.steps)) },
-    ghost shown_places: { ((x : ShownSet C) → shown ≡ Some x → x.at.places ≡ length (held roster.tasks)) },
+}
+
+// Clauses see what stands, the test, and how far the search has come.
+impl<Q, C> Model for Planner<Q, C> {
+    ghost use Rattle.planner.specs.State.{State};
+
+    ghost Value = { State Q C };
+
+    ghost use Rattle.planner.specs.Parts.{state, Fits};
+
+    ghost view = { state };
+
+    ghost invariant = { Fits };
 }

@@ -4,7 +4,6 @@ ghost use Rattle.model.specs.Of.{of};
 ghost use Rattle.planner.specs.Calls.{call_of};
 ghost use Rattle.planner.specs.Claim.{Leads, Named, told, told_by};
 ghost use Rattle.planner.specs.Record.{Recorded};
-ghost use Rattle.planner.specs.State.{state};
 
 use crate::events::{Call, Event};
 use crate::findings::Findings;
@@ -21,12 +20,12 @@ pub struct Entry<C> {
     pub findings: Findings<C>,
 }
 
-// Carries a call out, and tells what the planner tells after it.
+// Carries a call out.
 fn record_call<Q: Test, C: Tariff>(planner: &mut Planner<Q, C>, call: Call) -> Entry<C>
     ensures call { call_of result.event ≡ call }
-    ensures leads { Leads (Q.Test) (C.Amount) (C.Tariff.own) (state planner.old) result.event (state planner.new) }
-    ensures told { told_by result.findings ≡ told (state planner.new) }
-    ensures steps { Named (state planner.new).stands result.findings }
+    ensures leads { Leads Q.Test C.Tariff planner.old result.event planner.new }
+    ensures told { told_by result.findings ≡ told planner.new }
+    ensures steps { Named planner.new.stands result.findings }
 {
     let event = planner.carry_out(call);
     Entry {
@@ -42,7 +41,7 @@ pub fn replay<Q: Test + Drop, C: Tariff>(
     test: Q,
     calls: &[Call],
 ) -> Result<Vec<Entry<C>>, AllocError>
-    ensures { IfOk result (λ entries. Recorded (Q.Test) (C.Amount) (C.Tariff.own) (of roster) test calls.now entries.items) }
+    ensures { IfOk result (λ entries. Recorded Q.Test C.Tariff (of roster) test calls.now entries.items) }
 {
     let mut entries = Vec::with_capacity(heap, calls.len())?;
     let mut planner = Planner::<Q, C>::open(roster, test);

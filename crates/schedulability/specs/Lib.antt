@@ -4,3 +4,4 @@ pub mod Laws
 pub mod Parts
 pub mod Floorings
 pub mod Growths
+pub mod Zipped

@@ -1,11 +1,11 @@
 -- The part of the processor that a task needs is bounded.
-use Rattle.std.specs.Prelude.{◌≡◌, ℕ, ◌+◌, ◌*◌, ◌<◌, ◌≤◌, List, length, get_or, take, sum_by, slice_index, slice_index_or}
-use Rattle.std.proofs.Common.{◌∙◌, ap, arith, length-take}
-use Rattle.std.specs.List.{zip}
-use Rattle.std.proofs.ByRecursion.{All-get_or}
-use Rattle.std.proofs.lemmas.List.{get_or-take, take_all}
+use Rattle.std.specs.Prelude.{◌≡◌, ℕ, ◌+◌, ◌*◌, ◌<◌, ◌≤◌, ◌^◌, List, length, get_or, sum_by, slice_index_or}
+use Rattle.std.proofs.Common.{ap, arith}
+use Rattle.std.specs.List.{zip, All}
+use Rattle.std.proofs.lemmas.List.Elements.{All-from_recursion, All-weaker}
+use Rattle.std.proofs.lemmas.List.{take_all}
 use Rattle.std.proofs.lemmas.Slice.Zip.{get_or-zip, length-zip}
-use Rattle.std.proofs.lemmas.List.Sums.{sum_by_more}
+use Rattle.std.proofs.lemmas.List.Sums.{sum_by-le}
 use Rattle.model.specs.declared.kinds.Task.{Task}
 use Rattle.model.specs.Records.{TaskBounded}
 use Rattle.model.specs.Rewrite.{blank_task}
@@ -13,9 +13,11 @@ use Rattle.model.specs.System.{System, Keeps}
 use Rattle.model.proofs.Quotients.{up_rises, up_within}
 use Rattle.timing.specs.Bounds.{max_cost}
 use Rattle.timing.specs.Times.{IsSet, Faster, clock, front, time}
-use Rattle.timing.proofs.Systems.{clock_fast, step_named, time_fits}
+use Rattle.timing.proofs.Systems.{clock_fast, time_fits}
 use Rattle.timing.proofs.Faster.{isset_faster, sums_upto, time_falls}
+use Rattle.timing.proofs.Fronts.{zip_front}
 use Rattle.schedulability.specs.Density.{part, whole, Sparse}
+use Rattle.schedulability.specs.Zipped.{zip_all}
 
 -- what one release takes, at most
 pub cost_fits : (s : System) (t : Task) (g : ℕ) → Keeps s → TaskBounded t → g < length s.steps → time t.cycles (clock s g) + s.switch ≤ max_cost
@@ -24,33 +26,20 @@ cost_fits s t g k bounded named = omega (arith, time_fits t.cycles (clock s g) b
 pub part_fits : (s : System) (t : Task) (g : ℕ) → Keeps s → TaskBounded t → g < length s.steps → part s (t, g) ≤ max_cost * whole
 part_fits s t g k bounded named = omega (arith, up_within ((time t.cycles (clock s g) + s.switch) * whole) t.deadline bounded.5, cost_fits s t g k bounded named)
 
--- the task at a place, as the program reads it, with the step that a list names there
-module _ (s : System) (list : List ℕ) (k : Keeps s) (set : IsSet s (front s list)) (tasks : List Task) (are : tasks ≡ s.tasks) (i : ℕ) (low : i < length tasks) where
-  place : i < length s.tasks
-  place = rw are at low
+-- a task has its bounds, and its step is one of the table
+abbrev pub Fits : System → Task × ℕ → Type 0
+Fits s a = TaskBounded a.0 × (a.1 < length s.steps)
 
-  long : length s.tasks ≤ length list
-  long = omega (arith, set.whole, length-take (length s.tasks) list)
+module _ (s : System) (list : List ℕ) (k : Keeps s) (set : IsSet s (front s list)) where
+  -- of a set, every task and step
+  pub pairs_fit : All (Fits s) (zip s.tasks list)
+  pairs_fit = rw (zip_front s.tasks list) at (All-from_recursion (Fits s) _ (zip_all TaskBounded (λ g. g < length s.steps) s.tasks (front s list) k.bounded set.named))
 
-  pub task_bounded : TaskBounded (slice_index_or tasks i blank_task)
-  task_bounded = All-get_or TaskBounded tasks i blank_task low (rw are k.bounded)
-
-  pub step_in : get_or list i 0 < length s.steps
-  step_in = step_named s list long set.named i place
-
-  pub part_small : part s (slice_index_or tasks i blank_task, slice_index list i) ≤ max_cost * whole
-  part_small = part_fits s (slice_index_or tasks i blank_task) (slice_index list i) k task_bounded step_in
-
-  -- one more task
-  pub part_next : sum_by (part s) (take (i + 1) (zip s.tasks (front s list))) ≡ sum_by (part s) (take i (zip s.tasks (front s list))) + part s (slice_index_or tasks i blank_task, slice_index list i)
-  part_next =
-      let pairs = zip s.tasks (front s list) in
-      let short : i < length (front s list) = rw set.whole place in
-      let inside : i < length pairs = omega (arith, length-zip s.tasks (front s list), place, short) in
-      let here = get_or-zip s.tasks (front s list) i (blank_task, 0) place short in
-      let read = get_or-take (length s.tasks) list i 0 place in
-      let is : get_or pairs i (blank_task, 0) ≡ (slice_index_or tasks i blank_task, slice_index list i) = rw (here, read, are) in
-      sum_by_more (part s) pairs i (blank_task, 0) inside ∙ ap (λ a. sum_by (part s) (take i pairs) + part s a) is
+  -- so their parts add up
+  pub density_fits : sum_by (part s) (zip s.tasks list) < 2 ^ 64
+  density_fits =
+      let each = All-weaker (Fits s) (λ a. part s a ≤ max_cost * whole) (λ a fit. part_fits s a.0 a.1 k fit.0 fit.1) (zip s.tasks list) pairs_fit in
+      omega (arith, sum_by-le (part s) (max_cost * whole) (zip s.tasks list) each, length-zip s.tasks list, k.few_tasks)
 
 -- ---- a faster set is no denser
 
@@ -68,7 +57,7 @@ sparse_faster s fast slow k faster sparse =
     let lighter : (i : ℕ) → i < length (zip s.tasks fast) → part s (slice_index_or (zip s.tasks fast) i (blank_task, 0)) ≤ part s (slice_index_or (zip s.tasks slow) i (blank_task, 0)) =
     λ i low.
     let place : i < length s.tasks = omega (arith, long) in
-    let due = (All-get_or TaskBounded s.tasks i blank_task place k.bounded).5 in
+    let due = (All-from_recursion TaskBounded s.tasks k.bounded i blank_task place).5 in
     let quick = time_falls s fast slow k sparse.isset faster (get_or s.tasks i blank_task).cycles i in
     rw (get_or-zip s.tasks fast i (blank_task, 0) place (omega (arith, isset.whole)), get_or-zip s.tasks slow i (blank_task, 0) place (omega (arith, sparse.isset.whole)))
     (up_rises _ _ _ due (omega (arith, quick))) in

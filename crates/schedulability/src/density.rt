@@ -14,18 +14,13 @@ use timing::sets::{is_set, time_of};
 
 const WHOLE: u64 = 1_000_000_000;
 
-#[derive(Clone, Copy)]
+#[derive(Clone, Copy, PartialEq, Eq, Debug, Default)]
 pub struct Density;
 
 fn steady(tasks: &[Task]) -> bool
     ensures { Decides result (AllByRecursion Steady tasks.now) }
 {
-    for task in tasks {
-        if task.jitter > 0 {
-            return false;
-        }
-    }
-    true
+    tasks.iter().all(|task| task.jitter == 0)
 }
 
 // The part of the processor that a task needs at a step.
@@ -34,9 +29,9 @@ fn part(roster: &Roster, task: &Task, step: u8) -> u64
     requires named { step < length (of roster.now).steps }
     ensures { result ≡ part_of (of roster.now) (task.now, step) }
 {
-    let time = time_of(roster, task.cycles, step).unwrap_or(0);
-    let scaled = (time + roster.switch_time() as u64) * WHOLE;
-    scaled.div_ceil(task.deadline as u64)
+    let time = time_of(roster, task.cycles, step).unwrap();
+    let scaled = (time + u64::from(roster.switch_time())) * WHOLE;
+    scaled.div_ceil(u64::from(task.deadline))
 }
 
 // What all tasks need together.
@@ -44,19 +39,16 @@ fn needed(roster: &Roster, set: &[u8]) -> u64
     requires { IsSet (of roster.now) (front (of roster.now) set.now) }
     ensures { result ≡ density_of (of roster.now) (front (of roster.now) set.now) }
 {
-    let mut sum = 0;
-    for (i, task) in roster.tasks().iter().enumerate() {
-        sum += part(roster, task, set[i]);
-    }
-    sum
+    let pairs = roster.tasks().iter().zip(set);
+    pairs.map(|(task, step)| part(roster, task, *step)).sum()
 }
 
 impl Test for Density {
     ghost passes = { λ _ s set. Sparse s set };
 
     ghost lawful = { record {
-      sets = λ t s set passes. passes.isset;
-      faster = λ t s fast slow k faster passes. sparse_faster s fast slow k faster passes;
+      sets = λ _ _ _ passes. passes.isset;
+      faster = λ _. sparse_faster;
     } };
 
     fn ask(&self, roster: &Roster, list: &[u8]) -> bool {

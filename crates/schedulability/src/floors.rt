@@ -10,7 +10,7 @@ use model::kinds::Task;
 use model::roster::Roster;
 
 // Says yes when no step exceeds its task's floor and the test below says yes.
-#[derive(Clone, Copy)]
+#[derive(Clone, Copy, PartialEq, Eq, Debug, Default)]
 pub struct Floored<T> {
     pub below: T,
 }
@@ -18,21 +18,17 @@ pub struct Floored<T> {
 fn allowed(task: &Task, step: u8) -> bool
     ensures { Decides result (Allowed (task.now, step)) }
 {
-    match task.floor {
-        None => true,
-        Some(floor) => u32::from(step) <= floor,
-    }
+    task.floor.is_none_or(|floor| u32::from(step) <= floor)
 }
 
 fn within_floors(roster: &Roster, list: &[u8]) -> bool
     ensures { Decides result (WithinFloors (of roster.now) (front (of roster.now) list.now)) }
 {
-    for (task, step) in roster.tasks().iter().zip(list) {
-        if !allowed(task, *step) {
-            return false;
-        }
-    }
-    true
+    roster
+        .tasks()
+        .iter()
+        .zip(list)
+        .all(|(task, step)| allowed(task, *step))
 }
 
 impl<T: Test> Test for Floored<T> {

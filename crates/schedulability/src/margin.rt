@@ -7,7 +7,7 @@ use crate::test::Test;
 use model::roster::Roster;
 
 // Asks the test below about the roster with every number of cycles grown by some percent, at most 100.
-#[derive(Clone, Copy)]
+#[derive(Clone, Copy, PartialEq, Eq, Debug, Default)]
 pub struct Margin<T> {
     pub percent: u32,
     pub below: T,
@@ -25,9 +25,8 @@ impl<T: Test> Test for Margin<T> {
         } };
 
     fn ask(&self, roster: &Roster, list: &[u8]) -> bool {
-        match roster.grown(self.percent) {
-            Some(grown) => self.below.ask(&grown, list),
-            None => false,
-        }
+        roster
+            .grown(self.percent)
+            .is_some_and(|grown| self.below.ask(&grown, list))
     }
 }

@@ -5,7 +5,7 @@ use crate::test::Test;
 use model::roster::Roster;
 
 // Says yes when both tests do.
-#[derive(Clone, Copy)]
+#[derive(Clone, Copy, PartialEq, Eq, Debug, Default)]
 pub struct Pair<A, B> {
     pub first: A,
     pub second: B,

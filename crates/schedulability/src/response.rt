@@ -6,15 +6,15 @@ use crate::test::Test;
 use model::roster::Roster;
 use timing::windows::all_meet;
 
-#[derive(Clone, Copy)]
+#[derive(Clone, Copy, PartialEq, Eq, Debug, Default)]
 pub struct Response;
 
 impl Test for Response {
     ghost passes = { λ _ s set. Responds s set };
 
     ghost lawful = { record {
-      sets = λ t s set passes. passes.isset;
-      faster = λ t s fast slow k faster passes. responds_faster s fast slow k faster passes;
+      sets = λ _ _ _ passes. passes.isset;
+      faster = λ _. responds_faster;
     } };
 
     fn ask(&self, roster: &Roster, list: &[u8]) -> bool {

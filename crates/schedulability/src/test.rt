@@ -7,7 +7,7 @@ ghost use Rattle.timing.specs.Times.{front};
 
 use model::roster::Roster;
 
-// Anything that answers by the two rules of `TestLaws`.
+// Anything that answers by the two rules of `TestLaws`. A closure could not carry these, so it is a trait.
 pub trait Test {
     // the sets that pass
     ghost passes: { Self → System → List ℕ → Type 0 };

@@ -3,5 +3,3 @@
 
 #[cfg(test)]
 mod plans;
-#[cfg(test)]
-mod sample;

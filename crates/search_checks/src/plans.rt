@@ -1,12 +1,11 @@
-use crate::sample::*;
-use model::kinds::{Step, Task};
+use model::kinds::Task;
 use model::roster::Roster;
 use planner::events::{Call, Change, Event, Progress};
 use planner::findings::Findings;
 use planner::mark::Mark;
 use planner::planner::Planner;
-use planner::refusals::SearchRefusal;
 use planner::replay::replay;
+use sample::{FEED, LATER, SOONER, STROBE, answer, free, section, shared};
 use schedulability::density::Density;
 use schedulability::margin::Margin;
 use schedulability::pair::Pair;
@@ -17,89 +16,23 @@ use std::test::Fail;
 use tariffs::energy::Energy;
 use tariffs::peak::Peak;
 
-const TABLE: [Step; 3] = [
-    Step {
-        clock: 40_000,
-        voltage: 180,
-    },
-    Step {
-        clock: 20_000,
-        voltage: 130,
-    },
-    Step {
-        clock: 10_000,
-        voltage: 100,
-    },
-];
-
-const STROBE: Task = Task {
-    priority: 1,
-    cycles: 40_000,
-    period: 5_000,
-    deadline: 4_000,
-    jitter: 0,
-    floor: None,
-};
-
-const FEED: Task = Task {
-    priority: 2,
-    cycles: 80_000,
-    period: 10_000,
-    deadline: 10_000,
-    jitter: 0,
-    floor: None,
-};
-
-// Set 4, the cheapest otherwise, misses this deadline.
-const SOONER: Task = Task {
-    deadline: 7_999,
-    ..FEED
-};
-
-// Above the period: refused.
-const LATER: Task = Task {
-    deadline: 10_001,
-    ..FEED
-};
-
-// Nine sets, without sections.
-fn free(strobe: Task, feed: Task) -> Roster {
-    let mut roster = Roster::new();
-    let _ = roster.load(&TABLE, 0);
-    let _ = roster.enter(strobe);
-    let _ = roster.enter(feed);
-    roster
+fn opened() -> Result<Planner<Response, Energy>, Fail> {
+    Ok(Planner::open(shared::<Fail>(STROBE, FEED)?, Response))
 }
 
-// The tasks share a resource.
-fn shared(strobe: Task, feed: Task) -> Roster {
-    let mut roster = free(strobe, feed);
-    let _ = roster.enter_section(section(1, 0, 8_000));
-    let _ = roster.enter_section(section(2, 0, 10_000));
-    roster
-}
-
-fn opened() -> Planner<Response, Energy> {
-    Planner::open(shared(STROBE, FEED), Response)
-}
-
-fn plan_answer(answer: Result<Progress, SearchRefusal>) -> u8 {
-    match answer {
-        Ok(_) => 0,
-        Err(refusal) => refusal.number(),
+fn progress(mark: Mark, settled: u64, strides: u32) -> Progress {
+    Progress {
+        mark,
+        settled,
+        strides,
     }
-}
-
-fn parts(progress: Progress) -> (Mark, u64, u32) {
-    (progress.mark, progress.settled, progress.strides)
 }
 
 // The shown set's number and charge.
 fn found(findings: &Findings<Energy>) -> Option<(u64, u64)> {
-    match &findings.shown {
-        Some(shown) => Some((shown.number(), shown.charge.amount)),
-        None => None,
-    }
+    findings
+        .shown
+        .map(|shown| (shown.number(), shown.charge.amount))
 }
 
 // Searches to the end, and checks the strides that it takes and what is found.
@@ -111,23 +44,22 @@ fn check_search<Q: Test + Drop>(
     best: Option<(u64, u64)>,
 ) -> Result<(), Fail> {
     let mut planner = Planner::<Q, Energy>::open(roster, test);
-    let progress = planner.plan(1_000_000)?;
     let mark = if best.is_some() {
         Mark::Best
     } else {
         Mark::Nothing
     };
-    assert_eq!(rt; parts(progress), (mark, 9, strides));
+    assert_eq!(rt; planner.plan(1_000_000)?, progress(mark, 9, strides));
     assert_eq!(rt; found(&planner.close()), best);
     Ok(())
 }
 
 #[test]
 fn in_two_goes(rt: HostRuntime) -> Result<(), Fail> {
-    let mut planner = opened();
-    assert_eq!(rt; parts(planner.plan(6)?), (Mark::Open, 6, 6));
-    assert_eq!(rt; parts(planner.plan(1)?), (Mark::Best, 9, 1));
-    assert_eq!(rt; parts(planner.plan(1)?), (Mark::Best, 9, 0));
+    let mut planner = opened()?;
+    assert_eq!(rt; planner.plan(6)?, progress(Mark::Open, 6, 6));
+    assert_eq!(rt; planner.plan(1)?, progress(Mark::Best, 9, 1));
+    assert_eq!(rt; planner.plan(1)?, progress(Mark::Best, 9, 0));
     let findings = planner.close();
     assert_eq!(rt; (findings.mark, findings.settled), (Mark::Best, 9));
     assert_eq!(rt; found(&findings), Some((4, 2_028_000_000)));
@@ -145,10 +77,10 @@ fn only_the_fastest_set_or_none(rt: HostRuntime) -> Result<(), Fail> {
         deadline: 1_250,
         ..STROBE
     };
-    check_search(&rt, shared(missed, FEED), Response, 1, None)?;
+    check_search(&rt, shared::<Fail>(missed, FEED)?, Response, 1, None)?;
     check_search(
         &rt,
-        shared(met, FEED),
+        shared::<Fail>(met, FEED)?,
         Response,
         3,
         Some((0, 3_888_000_000)),
@@ -157,30 +89,30 @@ fn only_the_fastest_set_or_none(rt: HostRuntime) -> Result<(), Fail> {
 
 #[test]
 fn allowances(rt: HostRuntime) -> Result<(), Fail> {
-    let mut planner = opened();
-    assert_eq!(rt; parts(planner.plan(6)?), (Mark::Open, 6, 6));
-    assert_eq!(rt; plan_answer(planner.plan(0)), 14);
-    assert_eq!(rt; plan_answer(planner.plan(1_000_001)), 14);
+    let mut planner = opened()?;
+    assert_eq!(rt; planner.plan(6)?, progress(Mark::Open, 6, 6));
+    assert_eq!(rt; answer(planner.plan(0)), 14);
+    assert_eq!(rt; answer(planner.plan(1_000_001)), 14);
     let mut list = [9; 2];
-    assert_eq!(rt; call_answer(planner.show(&mut list)), 0);
+    assert_eq!(rt; answer(planner.show(&mut list)), 0);
     assert_eq!(rt; list, [1, 1]);
-    assert_eq!(rt; parts(planner.plan(1_000_000)?), (Mark::Best, 9, 1));
+    assert_eq!(rt; planner.plan(1_000_000)?, progress(Mark::Best, 9, 1));
     Ok(())
 }
 
 // A short list is refused first, and no place past the tasks is written.
 #[test]
 fn showing(rt: HostRuntime) -> Result<(), Fail> {
-    let mut planner = opened();
+    let mut planner = opened()?;
     let mut short = [9; 1];
     let mut list = [9; 3];
-    assert_eq!(rt; call_answer(planner.show(&mut short)), 15);
-    assert_eq!(rt; call_answer(planner.show(&mut list)), 17);
+    assert_eq!(rt; answer(planner.show(&mut short)), 15);
+    assert_eq!(rt; answer(planner.show(&mut list)), 17);
     assert_eq!(rt; list, [9, 9, 9]);
-    assert_eq!(rt; parts(planner.plan(3)?), (Mark::Open, 3, 3));
-    assert_eq!(rt; call_answer(planner.show(&mut short)), 15);
+    assert_eq!(rt; planner.plan(3)?, progress(Mark::Open, 3, 3));
+    assert_eq!(rt; answer(planner.show(&mut short)), 15);
     assert_eq!(rt; short, [9]);
-    assert_eq!(rt; call_answer(planner.show(&mut list)), 0);
+    assert_eq!(rt; answer(planner.show(&mut list)), 0);
     assert_eq!(rt; list, [0, 2, 9]);
     Ok(())
 }
@@ -189,10 +121,10 @@ fn showing(rt: HostRuntime) -> Result<(), Fail> {
 #[test]
 fn no_tasks(rt: HostRuntime) -> Result<(), Fail> {
     let mut planner = Planner::<Response, Energy>::open(Roster::new(), Response);
-    assert_eq!(rt; call_answer(planner.show(&mut [])), 17);
-    assert_eq!(rt; parts(planner.plan(1)?), (Mark::Best, 1, 1));
+    assert_eq!(rt; answer(planner.show(&mut [])), 17);
+    assert_eq!(rt; planner.plan(1)?, progress(Mark::Best, 1, 1));
     let mut list = [9; 1];
-    assert_eq!(rt; call_answer(planner.show(&mut list)), 0);
+    assert_eq!(rt; answer(planner.show(&mut list)), 0);
     assert_eq!(rt; list, [9]);
     assert_eq!(rt; found(&planner.close()), Some((0, 0)));
     Ok(())
@@ -200,29 +132,29 @@ fn no_tasks(rt: HostRuntime) -> Result<(), Fail> {
 
 #[test]
 fn refused_changes_change_nothing(rt: HostRuntime) -> Result<(), Fail> {
-    let mut planner = opened();
-    assert_eq!(rt; parts(planner.plan(6)?), (Mark::Open, 6, 6));
+    let mut planner = opened()?;
+    assert_eq!(rt; planner.plan(6)?, progress(Mark::Open, 6, 6));
     assert_eq!(rt; answer(planner.enter(FEED)), 7);
     assert_eq!(rt; answer(planner.alter(LATER)), 5);
     assert_eq!(rt; answer(planner.strike(3)), 8);
     assert_eq!(rt; answer(planner.enter_section(section(2, 0, 1))), 11);
     assert_eq!(rt; answer(planner.strike_section(2, 1)), 12);
-    assert_eq!(rt; parts(planner.plan(1)?), (Mark::Best, 9, 1));
+    assert_eq!(rt; planner.plan(1)?, progress(Mark::Best, 9, 1));
     assert_eq!(rt; found(&planner.close()), Some((4, 2_028_000_000)));
     Ok(())
 }
 
 // Nothing is shown, and the next stride is the first.
 fn check_restarted(rt: &impl Abort, planner: &mut Planner<Response, Energy>) -> Result<(), Fail> {
-    assert_eq!(rt; call_answer(planner.show(&mut [9; 3])), 17);
-    assert_eq!(rt; parts(planner.plan(1)?), (Mark::Open, 1, 1));
+    assert_eq!(rt; answer(planner.show(&mut [9; 3])), 17);
+    assert_eq!(rt; planner.plan(1)?, progress(Mark::Open, 1, 1));
     Ok(())
 }
 
 #[test]
 fn accepted_changes_start_again(rt: HostRuntime) -> Result<(), Fail> {
-    let mut planner = opened();
-    assert_eq!(rt; parts(planner.plan(6)?), (Mark::Open, 6, 6));
+    let mut planner = opened()?;
+    assert_eq!(rt; planner.plan(6)?, progress(Mark::Open, 6, 6));
     assert_eq!(rt; answer(planner.alter(SOONER)), 0);
     check_restarted(&rt, &mut planner)?;
     assert_eq!(rt;
@@ -238,7 +170,7 @@ fn accepted_changes_start_again(rt: HostRuntime) -> Result<(), Fail> {
     assert_eq!(rt; answer(planner.strike_section(3, 0)), 0);
     check_restarted(&rt, &mut planner)?;
     assert_eq!(rt; answer(planner.strike(3)), 0);
-    assert_eq!(rt; parts(planner.plan(1_000_000)?), (Mark::Best, 9, 6));
+    assert_eq!(rt; planner.plan(1_000_000)?, progress(Mark::Best, 9, 6));
     assert_eq!(rt; found(&planner.close()), Some((1, 2_648_000_000)));
     Ok(())
 }
@@ -251,14 +183,14 @@ fn a_floor_shuts_out_the_cheaper_set(rt: HostRuntime) -> Result<(), Fail> {
     };
     check_search(
         &rt,
-        shared(STROBE, FEED),
+        shared::<Fail>(STROBE, FEED)?,
         Response,
         7,
         Some((4, 2_028_000_000)),
     )?;
     check_search(
         &rt,
-        shared(fast, FEED),
+        shared::<Fail>(fast, FEED)?,
         Response,
         4,
         Some((2, 2_096_000_000)),
@@ -268,8 +200,8 @@ fn a_floor_shuts_out_the_cheaper_set(rt: HostRuntime) -> Result<(), Fail> {
 // The sets 0, 1 and 3 pass, and the peak of each is 180.
 #[test]
 fn equal_charges_keep_the_smaller_number(rt: HostRuntime) -> Result<(), Fail> {
-    let mut planner = Planner::<Response, Peak>::open(shared(STROBE, SOONER), Response);
-    assert_eq!(rt; parts(planner.plan(1_000_000)?), (Mark::Best, 9, 6));
+    let mut planner = Planner::<Response, Peak>::open(shared::<Fail>(STROBE, SOONER)?, Response);
+    assert_eq!(rt; planner.plan(1_000_000)?, progress(Mark::Best, 9, 6));
     let findings = planner.close();
     let Some(shown) = findings.shown else {
         return Err(Fail::new("nothing is shown"));
@@ -286,7 +218,7 @@ fn a_search_with_a_margin(rt: HostRuntime) -> Result<(), Fail> {
     };
     check_search(
         &rt,
-        shared(STROBE, FEED),
+        shared::<Fail>(STROBE, FEED)?,
         margin,
         6,
         Some((1, 2_648_000_000)),
@@ -306,20 +238,26 @@ fn searches_with_density_and_with_both(rt: HostRuntime) -> Result<(), Fail> {
     };
     check_search(
         &rt,
-        free(strobe, FEED),
+        free::<Fail>(strobe, FEED)?,
         Response,
         7,
         Some((4, 2_028_000_000)),
     )?;
     check_search(
         &rt,
-        free(strobe, FEED),
+        free::<Fail>(strobe, FEED)?,
         Density,
         6,
         Some((1, 2_648_000_000)),
     )?;
-    check_search(&rt, free(strobe, FEED), both, 6, Some((1, 2_648_000_000)))?;
-    check_search(&rt, shared(strobe, FEED), both, 1, None)
+    check_search(
+        &rt,
+        free::<Fail>(strobe, FEED)?,
+        both,
+        6,
+        Some((1, 2_648_000_000)),
+    )?;
+    check_search(&rt, shared::<Fail>(strobe, FEED)?, both, 1, None)
 }
 
 const CALLS: [Call; 6] = [
@@ -336,34 +274,27 @@ const ANSWERS: [u8; 6] = [14, 0, 8, 0, 5, 0];
 fn event_answer(event: Event) -> u8 {
     match event {
         Event::Changed(_, changed) => answer(changed),
-        Event::Planned(_, planned) => plan_answer(planned),
+        Event::Planned(_, planned) => answer(planned),
     }
 }
 
 // What a planner tells after some calls.
-fn after(calls: &[Call]) -> Findings<Energy> {
-    let mut planner = opened();
+fn after(calls: &[Call]) -> Result<Findings<Energy>, Fail> {
+    let mut planner = opened()?;
     for call in calls {
         let _ = planner.carry_out(*call);
     }
-    planner.close()
+    Ok(planner.close())
 }
 
 #[test]
 fn a_replay_tells_what_the_calls_tell(rt: HostRuntime) -> Result<(), Fail> {
-    let roster = shared(STROBE, FEED);
+    let roster = shared::<Fail>(STROBE, FEED)?;
     let entries = replay::<Response, Energy>(rt.alloc(), roster, Response, &CALLS)?;
     assert_eq!(rt; entries.len(), 6);
-    let mut made = 0usize;
-    for entry in entries {
-        assert!(rt; made < 6);
-        assert_eq!(rt; event_answer(entry.event), ANSWERS[made]);
-        made += 1;
-        let findings = after(&CALLS[0..made]);
-        assert_eq!(rt; entry.findings.mark, findings.mark);
-        assert_eq!(rt; entry.findings.settled, findings.settled);
-        assert_eq!(rt; found(&entry.findings), found(&findings));
+    for (made, (entry, number)) in entries.into_iter().zip(ANSWERS).enumerate() {
+        assert_eq!(rt; event_answer(entry.event), number);
+        assert_eq!(rt; entry.findings, after(&CALLS[..=made])?);
     }
-    assert_eq!(rt; made, 6);
     Ok(())
 }

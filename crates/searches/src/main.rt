@@ -1,18 +1,15 @@
 // Prints two searches for the cheapest set of a sample.
 #![tactic(auto)]
 
-mod sample;
 mod search;
 mod trouble;
 
-use sample::sample;
-use search::print_searches;
+use sample::{FEED, STROBE, shared};
+use search::Searches;
 use trouble::Trouble;
 
-fn run(rt: &HostRuntime) -> Result<(), Trouble> {
-    print_searches(rt, sample()?)
-}
-
 fn main(rt: HostRuntime) -> Result<(), Trouble> {
-    run(&rt)
+    let roster = shared::<Trouble>(STROBE, FEED)?;
+    let searches = Searches { rt: &rt, roster };
+    searches.print()
 }

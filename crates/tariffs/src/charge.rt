@@ -7,6 +7,7 @@ use crate::tariff::Tariff;
 use model::roster::Roster;
 
 // Joins the prices of all tasks from zero, in priority order; a place that the list lacks adds nothing.
+// A `for` in place of a `fold`: the project's rules ask for this loop.
 pub fn charge<C: Tariff>(roster: &Roster, set: &[u8]) -> C
     ensures { result ≡ charge_of (C.Amount) (C.Tariff.own) (of roster.now) set.now }
 {

@@ -1,15 +1,15 @@
 // The energy of one release of each task: cycles times voltage squared.
-ghost use Rattle.std.specs.Prelude.{◌+◌, ◌*◌, ◌≤◌, length, nat_le, nat_lt, refl};
-ghost use Rattle.tariffs.specs.Prices.{energy_price, max_energy_price, in_roster};
-ghost use Rattle.std.proofs.Common.{rules, arith};
-ghost use Rattle.std.proofs.lemmas.Bool.{and_parts, cond_both, ltb-true};
+ghost use Rattle.std.specs.Prelude.{◌+◌, ◌*◌, ◌≤◌, Some, decimal, nat_le};
+ghost use Rattle.tariffs.specs.Prices.{energy_price, max_energy_price};
+ghost use Rattle.std.proofs.Common.{rules};
 ghost use Rattle.tariffs.specs.Bounds.{energy_bound};
 
 use crate::amount::Amount;
-use crate::tariff::Tariff;
+use crate::tariff::{Tariff, task_at_step};
 use model::roster::Roster;
+use std::fmt;
 
-#[derive(Clone, Copy)]
+#[derive(Clone, Copy, PartialEq, Eq, PartialOrd, Ord, Debug, Default)]
 pub struct Energy {
     pub amount: u64,
 }
@@ -26,7 +26,7 @@ impl Amount for Energy {
     ghost lawful = { Prim.search rules };
 
     fn zero() -> Energy {
-        Energy { amount: 0 }
+        Energy::default()
     }
 
     fn join(self, other: Energy) -> Energy {
@@ -36,31 +36,32 @@ impl Amount for Energy {
     }
 
     fn at_most(&self, other: &Energy) -> bool {
-        self.amount <= other.amount
+        self <= other
     }
 }
 
 impl Tariff for Energy {
     ghost priced = { λ s i g. record { amount = energy_price s i g } };
 
-    ghost one = { λ s i g k.
-        cond_both (in_roster s i g) _ 0 (λ x. x ≤ max_energy_price)
-        (λ e. let (task, step) = and_parts (nat_lt i (length s.tasks)) _ e in energy_bound k refl refl (ltb-true _ _ task) (ltb-true _ _ step))
-        (λ _. omega arith) };
+    ghost one = { energy_bound };
 
     ghost outside = { Prim.search rules };
 
     fn price(roster: &Roster, place: usize, step: u8) -> Energy {
-        let steps = roster.steps();
-        let tasks = roster.tasks();
-        let step = step as usize;
-        if place < tasks.len() && step < steps.len() {
-            let voltage = steps[step].voltage as u64;
-            Energy {
-                amount: tasks[place].cycles as u64 * (voltage * voltage),
-            }
-        } else {
-            Energy { amount: 0 }
+        let Some((task, step)) = task_at_step(roster, place, step) else {
+            return Energy::zero();
+        };
+        let voltage = u64::from(step.voltage);
+        Energy {
+            amount: u64::from(task.cycles) * (voltage * voltage),
         }
+    }
+}
+
+impl fmt::Display for Energy {
+    ghost output = { λ e. Some (decimal e.amount) };
+
+    fn fmt<W: fmt::Write>(&self, f: &mut fmt::Formatter<W>) -> fmt::Result {
+        write!(f, "{}", self.amount)
     }
 }

@@ -1,13 +1,16 @@
 // Two tariffs at once: first parts are compared first.
-ghost use Rattle.std.specs.Prelude.{true, false, if◌then◌else◌};
+ghost use Rattle.std.specs.Prelude.{true, false, if◌then◌else◌, Some, codes};
+ghost use Rattle.std.specs.Fmt.{◌++?◌};
 ghost use Rattle.tariffs.specs.Lexical.{lexical};
 ghost use Rattle.std.proofs.Common.{rules};
 
 use crate::amount::Amount;
 use crate::tariff::Tariff;
 use model::roster::Roster;
+use std::fmt;
 
-#[derive(Clone, Copy)]
+// Not the pair of tests: tests and tariffs know nothing of each other, and a common type would have to lie below both.
+#[derive(Clone, Copy, PartialEq, Eq, PartialOrd, Ord, Debug, Default)]
 pub struct Paired<A, B> {
     pub first: A,
     pub second: B,
@@ -24,6 +27,7 @@ impl<A: Amount, B: Amount> Amount for Paired<A, B> {
 
     ghost lawful = { lexical A.Amount.lawful B.Amount.lawful };
 
+    // Not by the derived default: an amount has a zero, and need not be `Default`.
     fn zero() -> Paired<A, B> {
         Paired {
             first: A::zero(),
@@ -38,6 +42,7 @@ impl<A: Amount, B: Amount> Amount for Paired<A, B> {
         }
     }
 
+    // Not by the derived `<=`: it asks an order of all values of A and B, and amounts owe one up to the count of prices.
     fn at_most(&self, other: &Paired<A, B>) -> bool {
         self.first.at_most(&other.first)
             && (!other.first.at_most(&self.first) || self.second.at_most(&other.second))
@@ -56,5 +61,14 @@ impl<A: Tariff, B: Tariff> Tariff for Paired<A, B> {
             first: A::price(roster, place, step),
             second: B::price(roster, place, step),
         }
+    }
+}
+
+// Both parts, with one space between.
+impl<A: fmt::Display, B: fmt::Display> fmt::Display for Paired<A, B> {
+    ghost output = { λ p. A.output p.first ++? Some (codes " ") ++? B.output p.second };
+
+    fn fmt<W: fmt::Write>(&self, f: &mut fmt::Formatter<W>) -> fmt::Result {
+        write!(f, "{} {}", self.first, self.second)
     }
 }

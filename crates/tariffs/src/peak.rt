@@ -1,13 +1,14 @@
 // The highest voltage that any task needs.
-ghost use Rattle.std.specs.Prelude.{max, nat_le};
+ghost use Rattle.std.specs.Prelude.{Some, decimal, max, nat_le};
 ghost use Rattle.tariffs.specs.Prices.{peak_price};
 ghost use Rattle.std.proofs.Common.{rules};
 
 use crate::amount::Amount;
-use crate::tariff::Tariff;
+use crate::tariff::{Tariff, task_at_step};
 use model::roster::Roster;
+use std::fmt;
 
-#[derive(Clone, Copy)]
+#[derive(Clone, Copy, PartialEq, Eq, PartialOrd, Ord, Debug, Default)]
 pub struct Peak {
     pub voltage: u32,
 }
@@ -25,17 +26,15 @@ impl Amount for Peak {
     ghost lawful = { Prim.search rules };
 
     fn zero() -> Peak {
-        Peak { voltage: 0 }
+        Peak::default()
     }
 
     fn join(self, other: Peak) -> Peak {
-        Peak {
-            voltage: self.voltage.max(other.voltage),
-        }
+        self.max(other)
     }
 
     fn at_most(&self, other: &Peak) -> bool {
-        self.voltage <= other.voltage
+        self <= other
     }
 }
 
@@ -47,14 +46,19 @@ impl Tariff for Peak {
     ghost outside = { Prim.search rules };
 
     fn price(roster: &Roster, place: usize, step: u8) -> Peak {
-        let steps = roster.steps();
-        let step = step as usize;
-        if place < roster.tasks().len() && step < steps.len() {
-            Peak {
-                voltage: steps[step].voltage,
-            }
-        } else {
-            Peak { voltage: 0 }
+        let Some((_, step)) = task_at_step(roster, place, step) else {
+            return Peak::zero();
+        };
+        Peak {
+            voltage: step.voltage,
         }
+    }
+}
+
+impl fmt::Display for Peak {
+    ghost output = { λ p. Some (decimal p.voltage) };
+
+    fn fmt<W: fmt::Write>(&self, f: &mut fmt::Formatter<W>) -> fmt::Result {
+        write!(f, "{}", self.voltage)
     }
 }

@@ -1,33 +1,28 @@
 -- Parts and what is joined from them are the same thing.
-use Rattle.std.proofs.Common.{◌≡◌, ℕ, ◌+◌, ◌<◌, cond, eqb, List, [], ◌∷◌, ◌++◌, length, sym, refl, ap, ◌∙◌, inl, inr, arith}
-use Rattle.std.specs.List.{AllByRecursion}
+use Rattle.std.proofs.Common.{◌≡◌, ℕ, ◌+◌, eqb, List, [], ◌∷◌, ◌++◌, length, sym, refl, ap, ◌∙◌, inl, inr}
+use Rattle.std.specs.List.{AllByRecursion, slice_split, onto_first, join_with_byte}
 use Rattle.std.proofs.lemmas.List.{append-nil, append_cancel_right}
-use Rattle.std.proofs.lemmas.List.Sums.{sum_by-cons}
+use Rattle.std.proofs.lemmas.List.Splits.{length-slice_split, join_with_byte-slice_split}
 use Rattle.std.proofs.lemmas.Bool.{cases_eq, eq-eqb, ne_eqb}
 use Rattle.text.specs.Lines.{newline, Free, separators, ended, before, parts, trailed, joined}
 
+-- parts and what is joined from them in std's words
+before_onto : (b : ℕ) (ps : List (List ℕ)) → before b ps ≡ onto_first b ps
+before_onto b [] = refl
+before_onto b (p ∷ ps) = refl
+
+parts_split : (sep : ℕ) (bs : List ℕ) → parts sep bs ≡ slice_split (λ b. eqb b sep) bs
+parts_split sep [] = refl
+parts_split sep (b ∷ bs) = rw (before_onto, parts_split sep bs) refl
+
+joined_join : (sep : ℕ) (ps : List (List ℕ)) → joined sep ps ≡ join_with_byte sep ps
+joined_join sep [] = refl
+joined_join sep (p ∷ []) = append-nil p
+joined_join sep (p ∷ (q ∷ ps)) = ap (λ more. p ++ (sep ∷ more)) (joined_join sep (q ∷ ps))
+
 -- there is one part more than there are separators
-separators_cons : (sep b : ℕ) (bs : List ℕ) → separators sep (b ∷ bs) ≡ cond (eqb b sep) 1 0 + separators sep bs
-separators_cons sep b bs = sum_by-cons (λ x. cond (eqb x sep) 1 0) b bs
-
-length_before : (b : ℕ) (ps : List (List ℕ)) → 0 < length ps → length (before b ps) ≡ length ps
-length_before b [] some = omega arith
-length_before b (p ∷ ps) some = refl
-
 pub length_parts : (sep : ℕ) (bs : List ℕ) → length (parts sep bs) ≡ separators sep bs + 1
-length_parts sep [] = refl
-length_parts sep (b ∷ bs) =
-    let more = length_parts sep bs in
-    let one = separators_cons sep b bs in
-    elim (cases_eq b sep) [
-      | inl e ↦ let t = eq-eqb b sep e in rw t (omega (arith, rw t at one))
-      | inr apart ↦
-          let t = ne_eqb b sep apart in
-          rw t (length_before b (parts sep bs) (omega arith) ∙ omega (arith, rw t at one))
-    ]
-
-pub parts_some : (sep : ℕ) (bs : List ℕ) → parts sep bs ≡ [] → ⊥
-parts_some sep bs e = omega (arith, length_parts sep bs, ap length e)
+length_parts sep bs = ap length (parts_split sep bs) ∙ length-slice_split (λ b. eqb b sep) bs
 
 -- without a separator there is one part, and a separator ends the first
 pub parts_whole : (sep : ℕ) (bs : List ℕ) → Free sep bs → parts sep bs ≡ bs ∷ []
@@ -49,21 +44,8 @@ parts_joined sep [] some all = absurd (some refl)
 parts_joined sep (p ∷ ps) some (free, all) = parts_trailed sep p ps free all
 
 -- parts that are joined make up the text again
-joined_before : (sep b : ℕ) (ps : List (List ℕ)) → joined sep (before b ps) ≡ b ∷ joined sep ps
-joined_before sep b [] = refl
-joined_before sep b (p ∷ ps) = refl
-
-joined_empty : (sep : ℕ) (ps : List (List ℕ)) → (ps ≡ [] → ⊥) → joined sep ([] ∷ ps) ≡ sep ∷ joined sep ps
-joined_empty sep [] some = absurd (some refl)
-joined_empty sep (p ∷ ps) some = refl
-
 pub joined_parts : (sep : ℕ) (bs : List ℕ) → joined sep (parts sep bs) ≡ bs
-joined_parts sep [] = refl
-joined_parts sep (b ∷ bs) =
-    elim (cases_eq b sep) [
-      | inl e ↦ rw (eq-eqb b sep e) (joined_empty sep (parts sep bs) (parts_some sep bs) ∙ rw (joined_parts sep bs, e))
-      | inr apart ↦ rw (ne_eqb b sep apart) (joined_before sep b (parts sep bs) ∙ rw (joined_parts sep bs))
-    ]
+joined_parts sep bs = joined_join sep (parts sep bs) ∙ ap (join_with_byte sep) (parts_split sep bs) ∙ join_with_byte-slice_split sep bs
 
 -- no part has a separator
 free_before : (sep b : ℕ) (ps : List (List ℕ)) → (b ≡ sep → ⊥) → AllByRecursion (Free sep) ps → AllByRecursion (Free sep) (before b ps)

@@ -1,4 +1,3 @@
-pub mod Left
 pub mod Lines
 pub mod Reading
 pub mod Values

@@ -1,6 +1,6 @@
 -- Texts with separators: what stands between them, and what is put together with them.
-use Rattle.std.specs.Prelude.{◌≡◌, ℕ, ◌+◌, ◌<◌, ◌≤◌, cond, List, [], ◌∷◌, ◌++◌, length, drop, count_by, ◌==◌, ◌≢◌, nat_eq}
-use Rattle.std.specs.List.{between, AllByRecursion}
+use Rattle.std.specs.Prelude.{◌≡◌, ℕ, cond, List, [], ◌∷◌, ◌++◌, count_by, ◌==◌, ◌≢◌, nat_eq}
+use Rattle.std.specs.List.{AllByRecursion}
 
 abbrev pub newline : ℕ
 newline = 10
@@ -41,9 +41,7 @@ abbrev pub joined : ℕ → List (List ℕ) → List ℕ
 joined sep [] = []
 joined sep (part ∷ more) = part ++ trailed sep more
 
--- the first separator at or after a place stands at another
-pub record FirstAt (sep : ℕ) (bs : List ℕ) (from at : ℕ) : Type 0 where
-  pub behind : from ≤ at
-  pub within : at < length bs
-  pub free : Free sep (between from at bs)
-  pub split : drop from bs ≡ between from at bs ++ (sep ∷ drop (at + 1) bs)
+-- the first separator stands between two stretches
+pub record Cut (sep : ℕ) (bs front back : List ℕ) : Type 0 where
+  pub split : bs ≡ front ++ (sep ∷ back)
+  pub free : Free sep front

@@ -1,39 +1,46 @@
 // The items of a line, with one space between two.
-ghost use Rattle.std.specs.Prelude.{◌≡◌, ◌+◌, ◌<◌, [], ◌∷◌, length, MatchOption};
-ghost use Rattle.std.specs.List.{between};
-ghost use Rattle.text.specs.Left.{left};
+ghost use Rattle.std.specs.Prelude.{◌≡◌, ℕ, List, [], length};
+ghost use Rattle.std.specs.Iterator.{YieldsFirstRef, item_count};
+ghost use Rattle.std.specs.Option.{option_map_or};
 ghost use Rattle.text.specs.Lines.{space, parts};
 
-use crate::separators::{SPACE, find};
+use crate::separators::{SPACE, cut};
+use std::marker::Model;
 
 // The items that were not handed out yet.
+// Not the library's `Split`, whose type has that of its closure in it: a field cannot name that.
 #[derive(Drop)]
 pub struct Items<'a> {
     rest: Option<&'a [u8]>,
 }
 
-// Where the first item of a line ends, unless it is the whole line.
-fn first_end(line: &[u8]) -> Option<usize>
-    ensures { MatchOption result (parts space line.now ≡ line.now ∷ []) (λ end. (end < length line.now) × (parts space line.now ≡ between 0 end line.now ∷ parts space (between (end + 1) (length line.now) line.now))) }
-{
-    find(line, 0, SPACE)
+impl<'a> Model for Items<'a> {
+    ghost Value = { List (List ℕ) };
+
+    ghost view = { λ i. option_map_or (λ line. parts space line.now) i.rest [] };
 }
 
 impl<'a> Items<'a> {
     pub fn new(line: &'a [u8]) -> Items<'a>
-        ensures { left result ≡ parts space line.now }
+        ensures { result ≡ parts space line.now }
     {
         Items { rest: Some(line) }
     }
+}
 
-    pub fn next_item(&mut self) -> Option<&'a [u8]>
-        ensures { MatchOption result ((left self.old ≡ []) × (left self.new ≡ [])) (λ item. left self.old ≡ item.now ∷ left self.new) }
-    {
+impl<'a> Iterator for Items<'a> {
+    type Item = &'a [u8];
+
+    ghost next_gives = { YieldsFirstRef (λ items. items) };
+
+    ghost remaining = { item_count (λ items. items) };
+
+    fn next(&mut self) -> Option<&'a [u8]> {
         let line = self.rest?;
-        match first_end(line) {
-            Some(end) => {
-                self.rest = Some(&line[end + 1..]);
-                Some(&line[0..end])
+        match cut(line, SPACE) {
+            Some((item, rest)) => {
+                self.rest = Some(rest);
+                Some(item)
             }
             None => {
                 self.rest = None;
@@ -47,11 +54,5 @@ impl<'a> Items<'a> {
 pub fn count(line: &[u8]) -> usize
     ensures { result ≡ length (parts space line.now) }
 {
-    let mut count = 1;
-    for b in line {
-        if *b == SPACE {
-            count += 1;
-        }
-    }
-    count
+    line.iter().filter(|b| **b == SPACE).count() + 1
 }

@@ -1,7 +1,6 @@
 // Decimal numbers of up to nine digits.
 ghost use Rattle.std.specs.Prelude.{◌≡◌, ℕ, ◌<◌, ◌≤◌, length, decimal, Decides, MatchOption, ◌≢◌};
 ghost use Rattle.std.specs.Str.Parse.{AllDigits, digits_value};
-ghost use Rattle.std.specs.Char.{digit_value};
 ghost use Rattle.text.specs.Values.{values, Shaped};
 
 // Whether there are one to nine bytes, and no zero before others.
@@ -9,17 +8,7 @@ fn is_shaped(item: &[u8]) -> bool
     ensures { Decides result (Shaped item.now) }
 {
     let len = item.len();
-    len == 1 || (len > 1 && len <= 9 && item[0] != b'0')
-}
-
-fn digit(b: u8) -> Option<u32>
-    ensures { MatchOption result (digit_value b < 10 → ⊥) (λ d. (d < 10) × (digit_value b ≡ d)) }
-{
-    if b >= b'0' && b <= b'9' {
-        Some((b - b'0') as u32)
-    } else {
-        None
-    }
+    len == 1 || ((2..=9).contains(&len) && item[0] != b'0')
 }
 
 // The number that at most nine digits write.
@@ -27,9 +16,10 @@ fn read(digits: &[u8]) -> Option<u32>
     requires { length digits.now ≤ 9 }
     ensures { MatchOption result (AllDigits 10 digits.now → ⊥) (λ n. AllDigits 10 digits.now × (n ≡ digits_value 10 digits.now)) }
 {
+    // A `for` with `?`: in a `try_fold` the bound on what is read so far would be a premise of the closure.
     let mut read = 0;
     for b in digits {
-        read = read * 10 + digit(*b)?;
+        read = read * 10 + char::from(*b).to_digit(10)?;
     }
     Some(read)
 }

@@ -1,19 +1,15 @@
 // Where separators stand.
-ghost use Rattle.std.specs.Prelude.{drop, MatchOption};
-ghost use Rattle.text.specs.Lines.{Free, FirstAt};
+ghost use Rattle.std.specs.Prelude.{MatchOption};
+ghost use Rattle.text.specs.Lines.{Free, Cut};
 
 pub(crate) const NEWLINE: u8 = b'\n';
 
 pub(crate) const SPACE: u8 = b' ';
 
-// The place of the first separator from a place on.
-pub(crate) fn find(bytes: &[u8], from: usize, separator: u8) -> Option<usize>
-    ensures { MatchOption result (Free separator (drop from bytes.now)) (λ at. FirstAt separator bytes.now from at) }
+// What stands before the first separator, and what stands behind it.
+pub(crate) fn cut(bytes: &[u8], separator: u8) -> Option<(&[u8], &[u8])>
+    ensures { MatchOption result (Free separator bytes.now) (λ parts. Cut separator bytes.now parts.0.now parts.1.now) }
 {
-    for i in from..bytes.len() {
-        if bytes[i] == separator {
-            return Some(i);
-        }
-    }
-    None
+    let at = bytes.iter().position(|b| *b == separator)?;
+    Some((&bytes[..at], &bytes[at + 1..]))
 }

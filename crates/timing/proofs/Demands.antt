@@ -1,7 +1,7 @@
 -- Demand rises with the window, no sum of it wraps, and it is at least what the shares say.
-use Rattle.std.proofs.Common.{ℕ, zero, suc, ◌+◌, ◌*◌, ◌^◌, ◌<◌, ◌≤◌, List, [], ◌∷◌, length, sum_by, ⊎_elim, mul-le-mul_right, mul_assoc, add-mul, mul-le-mul, lt_of_mul-lt-mul_right, mul-le-mul_left, mul-add, div-le_self, div-mul-le_self, mul_left_comm, arith}
+use Rattle.std.proofs.Common.{◌≡◌, ℕ, zero, suc, ◌+◌, ◌*◌, ◌^◌, ◌<◌, ◌≤◌, List, [], ◌∷◌, length, get_or, sum_by, ⊎_elim, mul-le-mul_right, mul_assoc, add-mul, mul-le-mul, lt_of_mul-lt-mul_right, mul-le-mul_left, mul-add, div-le_self, div-mul-le_self, mul_left_comm, arith}
 use Rattle.std.specs.List.{AllByRecursion}
-use Rattle.std.proofs.ByRecursion.{All-weaker, sum_by_le}
+use Rattle.std.proofs.ByRecursion.{All-get_or, All-weaker, sum_by_le}
 use Rattle.std.proofs.lemmas.List.Sums.{sum_by-cons}
 use Rattle.std.proofs.lemmas.Bool.{cases_lt}
 use Rattle.timing.specs.declared.demand.Load.{Load}
@@ -29,10 +29,17 @@ interference_fits : (w : ℕ) (l : Load) → w ≤ max_period → Bounded l → 
 interference_fits w l short (some, late, cheap) =
     mul-le-mul (up_least (w + l.jitter) l.period (2 * max_period) some (omega arith)) cheap
 
-pub demand_fits : (own : ℕ) (urgent : List Load) (w : ℕ) → own ≤ max_own → length urgent ≤ max_loads → AllByRecursion Bounded urgent → w ≤ max_period → demand own urgent w < 2 ^ 63
-demand_fits own urgent w small few bounded short =
+-- an item of a list of bounded loads
+pub bounded_at : (xs : List Load) (k : ℕ) (x : Load) → AllByRecursion Bounded xs → k < length xs → x ≡ get_or xs k x → Bounded x
+bounded_at xs k x bounded low is = rw (← is) at (All-get_or Bounded xs k x low bounded)
+
+pub interferences_fit : (urgent : List Load) (w : ℕ) → length urgent ≤ max_loads → AllByRecursion Bounded urgent → w ≤ max_period → sum_by (interference w) urgent < 2 ^ 62
+interferences_fit urgent w few bounded short =
     let each = All-weaker Bounded _ (λ l. interference_fits w l short) urgent bounded in
     omega (arith, sum_by_le (interference w) (2 * max_period * max_cost) urgent each)
+
+pub demand_fits : (own : ℕ) (urgent : List Load) (w : ℕ) → own ≤ max_own → length urgent ≤ max_loads → AllByRecursion Bounded urgent → w ≤ max_period → demand own urgent w < 2 ^ 63
+demand_fits own urgent w small few bounded short = omega (arith, interferences_fit urgent w few bounded short)
 
 share_fits : (l : Load) → Bounded l → share l ≤ max_cost * scale
 share_fits l (_, _, cheap) = omega (arith, div-le_self (l.cost * scale) l.period)

@@ -2,8 +2,7 @@
 use Rattle.std.proofs.Common.{◌≡◌, ℕ, zero, suc, ◌*◌, ◌<◌, ◌≤◌, max, List, [], ◌∷◌, map, length, get_or, take, fold, sum_by, filter, refl, ⊎_elim, mul-le-mul_left, add-one, arith}
 use Rattle.std.proofs.lemmas.List.Elements.{AllZip-get_or, length_all_zip}
 use Rattle.std.proofs.ByRecursion.{All-from_get_or, All-get_or, All-take}
-use Rattle.std.proofs.lemmas.List.{get_or_past, length-map}
-use Rattle.std.proofs.lemmas.Slice.Zip.{length-zip}
+use Rattle.std.proofs.lemmas.List.{get_or_past}
 use Rattle.std.proofs.lemmas.List.Sums.{sum_by_more}
 use Rattle.std.proofs.lemmas.Bool.{cases_Bool, cases_lt}
 use Rattle.model.specs.declared.kinds.Section.{Section}
@@ -15,11 +14,11 @@ use Rattle.model.proofs.Lists.{pairwise_getD}
 use Rattle.model.proofs.Quotients.{up_covers, up_least}
 use Rattle.timing.specs.declared.demand.Load.{Load}
 use Rattle.timing.specs.Demand.{interference, Bounded}
-use Rattle.timing.specs.Times.{IsSet, Faster, Covers, clock, time, loads, hold, blocks}
+use Rattle.timing.specs.Times.{IsSet, Faster, clock, time, loads, hold, blocks}
 use Rattle.timing.specs.Windows.{idle, task, own, demand_at, MeetsAt, Responds}
 use Rattle.timing.proofs.Demands.{demand_rises, window_within}
-use Rattle.timing.proofs.Limits.{load_at, loads_bounded, own_limits}
-use Rattle.timing.proofs.Systems.{clock_fast, table_from}
+use Rattle.timing.proofs.Limits.{length-loads, load_at, loads_bounded, own_limits}
+use Rattle.timing.proofs.Systems.{clock_fast}
 
 -- a greater divisor goes in no more often
 up_falls : (a b d : ℕ) → 0 < b → b ≤ d → up a d ≤ up a b
@@ -33,7 +32,6 @@ clock_falls s g h k le low =
     (λ (ge : h ≤ g). let same : g ≡ h = omega arith in rw same (omega arith))
     (cases_lt g h)
 
--- item by item no more, so also in sum
 -- sums over the same front of two lists compare as their terms do
 pub sums_upto : {X : Type 0} (f : X → ℕ) (xs ys : List X) (d : X) (i : ℕ) → i ≤ length xs → i ≤ length ys → ((j : ℕ) → j < i → f (get_or xs j d) ≤ f (get_or ys j d)) → sum_by f (take i xs) ≤ sum_by f (take i ys)
 sums_upto f xs ys d zero low high each = omega arith
@@ -80,7 +78,7 @@ module _ (s : System) (a b : List ℕ) (k : Keeps s) (slow : IsSet s b) (fast : 
   pub load_lighter : (i : ℕ) → i < length s.tasks → Lighter (get_or (loads s a) i idle) (get_or (loads s b) i idle)
   load_lighter i low =
       let le = time_falls (task s i).cycles i in
-      rw (load_at s a k (omega (arith, isset_faster.whole)) (table_from s a isset_faster) i low, load_at s b k (omega arith) (table_from s b slow) i low)
+      rw (load_at s a k isset_faster i low, load_at s b k slow i low)
       (record { time = le; cost = omega arith; period = refl; jitter = refl })
 
   -- the longest of the sections that block, from x or y on
@@ -96,17 +94,14 @@ module _ (s : System) (a b : List ℕ) (k : Keeps s) (slow : IsSet s b) (fast : 
   pub demand_falls : (i w : ℕ) → i < length s.tasks → demand_at s a i w ≤ demand_at s b i w
   demand_falls i w low =
       let held = blocking_falls (task s i).priority s.sections 0 0 (omega arith) in
-      let enough : (set : List ℕ) → length set ≡ length s.tasks → i ≤ length (loads s set) = λ set whole. simp (length-map, length-zip) (omega arith) in
-      let before = sums_upto (interference w) (loads s a) (loads s b) idle i (enough a isset_faster.whole) (enough b slow.whole) (λ j h. interference_falls w _ _ (load_lighter j (omega arith))) in
+      let before = sums_upto (interference w) (loads s a) (loads s b) idle i (omega (arith, length-loads s a isset_faster)) (omega (arith, length-loads s b slow)) (λ j h. interference_falls w _ _ (load_lighter j (omega arith))) in
       omega (arith, held, before, (load_lighter i low).time)
 
   -- a task that meets its deadline still does, with a window no longer
   pub meets_faster : (i v : ℕ) → i < length s.tasks → MeetsAt s b i v → (w : ℕ) × (w ≤ v) × MeetsAt s a i w
   meets_faster i v low meets =
-      let long : Covers s a = omega (arith, isset_faster.whole) in
-      let named = table_from s a isset_faster in
-      let bounded = All-take Bounded i (loads s a) (loads_bounded s a k long named) in
-      let some = (own_limits s a k long named i low).0 in
+      let bounded = All-take Bounded i (loads s a) (loads_bounded s a k isset_faster) in
+      let some = (own_limits s a k isset_faster i low).0 in
       let (w, le, window) = window_within (demand_at s a i) v (λ u x. demand_rises (own s a i) (take i (loads s a)) u x bounded) (omega arith) meets.window.positive (omega (arith, demand_falls i v low, meets.window.settles)) in
       (w, le, record { window = window; early = omega arith })
 

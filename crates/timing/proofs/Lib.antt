@@ -1,9 +1,7 @@
-pub mod Chosen
 pub mod Demands
 pub mod Blockers
-pub mod Described
 pub mod Faster
 pub mod Judgements
+pub mod Fronts
 pub mod Limits
-pub mod Loads
 pub mod Systems

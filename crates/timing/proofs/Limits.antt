@@ -2,7 +2,7 @@
 use Rattle.std.proofs.Common.{◌≡◌, ℕ, ◌+◌, ◌<◌, ◌≤◌, max, List, [], ◌∷◌, map, length, get_or, fold, filter, ap, ◌∙◌, ⊎_elim, arith}
 use Rattle.std.specs.List.{zip, AllByRecursion}
 use Rattle.std.proofs.ByRecursion.{All-from_get_or, All-get_or, all_kept_by, All-map}
-use Rattle.std.proofs.lemmas.List.{get_or-map}
+use Rattle.std.proofs.lemmas.List.{get_or-map, length-map}
 use Rattle.std.proofs.lemmas.Slice.Zip.{get_or-zip, length-zip}
 use Rattle.model.specs.Lookup.{rank}
 use Rattle.model.specs.Records.{TaskBounded, Ordered, Within}
@@ -10,12 +10,12 @@ use Rattle.model.specs.Rewrite.{blank_task}
 use Rattle.model.specs.System.{System, Keeps, Owned}
 use Rattle.model.proofs.Lookups.{sought}
 use Rattle.timing.specs.declared.holds.Hold.{Hold}
-use Rattle.timing.specs.Bounds.{max_time}
+use Rattle.timing.specs.Bounds.{max_period, max_time}
 use Rattle.timing.specs.Demand.{Bounded}
-use Rattle.timing.specs.Times.{Covers, InTable, load, loads, blocks, blocking, hold, holds}
+use Rattle.timing.specs.Times.{IsSet, load, loads, blocks, blocking, hold, holds}
 use Rattle.timing.specs.Windows.{task, idle, own}
 use Rattle.timing.proofs.Blockers.{blank_section}
-use Rattle.timing.proofs.Systems.{clock_fast, step_named, time_fits, time_some}
+use Rattle.timing.proofs.Systems.{clock_fast, time_fits, time_some}
 
 folded_max_fits : (m z : ℕ) (xs : List ℕ) → z ≤ m → AllByRecursion (λ x. x ≤ m) xs → fold max z xs ≤ m
 folded_max_fits m z [] low all = low
@@ -25,26 +25,40 @@ pub blocking_fits : (p m : ℕ) (held : List Hold) → AllByRecursion (λ h. h.t
 blocking_fits p m held all =
     folded_max_fits m 0 (map (λ h. h.time) (filter (blocks p) held)) (omega arith) (All-map (λ x. x ≤ m) (λ h. h.time) (filter (blocks p) held) (all_kept_by (blocks p) (λ h. h.time ≤ m) held all))
 
-module _ (s : System) (set : List ℕ) (k : Keeps s) (long : Covers s set) (named : InTable s set) where
+-- a load for each task
+pub length-loads : (s : System) (set : List ℕ) → IsSet s set → length (loads s set) ≡ length s.tasks
+length-loads s set isset = simp (length-map, length-zip) (omega (arith, isset.whole))
+
+-- the times that a task comes with
+pub task_limits : (s : System) (i : ℕ) → Keeps s → i < length s.tasks → ((task s i).jitter ≤ max_period) × ((task s i).deadline ≤ max_period)
+task_limits s i k low =
+    let bounds = All-get_or TaskBounded s.tasks i blank_task low k.bounded in
+    let orders = All-get_or Ordered s.tasks i blank_task low k.ordered in
+    (omega (arith, bounds, orders), omega (arith, bounds, orders))
+
+module _ (s : System) (set : List ℕ) (k : Keeps s) (isset : IsSet s set) where
+  step_at : (i : ℕ) → i < length s.tasks → get_or set i 0 < length s.steps
+  step_at i low = All-get_or (λ g. g < length s.steps) set i 0 (omega (arith, isset.whole)) isset.named
+
   -- the load of the task at a place
   pub load_at : (i : ℕ) → i < length s.tasks → get_or (loads s set) i idle ≡ load s (task s i, get_or set i 0)
   load_at i low =
-      get_or-map (load s) (zip s.tasks set) i (blank_task, 0) idle (omega (arith, length-zip s.tasks set))
-      ∙ ap (load s) (get_or-zip s.tasks set i (blank_task, 0) low (omega arith))
+      get_or-map (load s) (zip s.tasks set) i (blank_task, 0) idle (omega (arith, isset.whole, length-zip s.tasks set))
+      ∙ ap (load s) (get_or-zip s.tasks set i (blank_task, 0) low (omega (arith, isset.whole)))
 
   load_limits : (i : ℕ) → i < length s.tasks → Bounded (load s (task s i, get_or set i 0)) × (1 ≤ (load s (task s i, get_or set i 0)).time) × ((load s (task s i, get_or set i 0)).time ≤ max_time)
   load_limits i low =
       let bounds = All-get_or TaskBounded s.tasks i blank_task low k.bounded in
-      let orders = All-get_or Ordered s.tasks i blank_task low k.ordered in
-      let fast = clock_fast s (get_or set i 0) k (step_named s set long named i low) in
+      let times = task_limits s i k low in
+      let fast = clock_fast s (get_or set i 0) k (step_at i low) in
       let fits = time_fits (task s i).cycles _ bounds.2 fast in
-      ((bounds.3, omega (arith, bounds, orders), omega (arith, fits, k.short_switch)), time_some (task s i).cycles _ bounds.1 fast, fits)
+      ((bounds.3, times.0, omega (arith, fits, k.short_switch)), time_some (task s i).cycles _ bounds.1 fast, fits)
 
   pub loads_bounded : AllByRecursion Bounded (loads s set)
   loads_bounded =
       All-map Bounded (load s) (zip s.tasks set) (All-from_get_or (λ a. Bounded (load s a)) (zip s.tasks set) (blank_task, 0) (λ i h.
       let low : i < length s.tasks = omega (arith, length-zip s.tasks set) in
-      rw (get_or-zip s.tasks set i (blank_task, 0) low (omega arith)) (load_limits i low).0))
+      rw (get_or-zip s.tasks set i (blank_task, 0) low (omega (arith, isset.whole))) (load_limits i low).0))
 
   hold_limit : (i : ℕ) → i < length s.sections → (hold s set (get_or s.sections i blank_section)).time ≤ max_time
   hold_limit i low =
@@ -55,7 +69,7 @@ module _ (s : System) (set : List ℕ) (k : Keeps s) (long : Covers s set) (name
       (λ hit.
       let within : Within c (task s at) = rw hit.1 at owned in
       let bounds = All-get_or TaskBounded s.tasks at blank_task hit.0.0 k.bounded in
-      time_fits c.cycles _ (omega (arith, bounds.2)) (clock_fast s _ k (step_named s set long named at hit.0.0)))
+      time_fits c.cycles _ (omega (arith, bounds.2)) (clock_fast s _ k (step_at at hit.0.0)))
       (λ miss. absurd (rw miss.1 at owned))
       (sought s.tasks c.owner k.rising)
 

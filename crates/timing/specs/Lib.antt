@@ -1,4 +1,3 @@
-pub mod Analysis
 pub mod Bounds
 pub mod Demand
 pub mod Times

@@ -37,7 +37,12 @@ pub record Responds (s : System) (set : List ℕ) : Type 0 where
   pub isset : IsSet s set
   pub meets : AllMeet s set
 
--- ---- the windows call
+-- ---- lists as sets, and the windows call
+
+-- the rule behind each refusal of a list: it has a place for each task, and these are steps of the table
+abbrev pub SetRule : System → List ℕ → CallRefusal → Type 0
+SetRule s list ShortList = Covers s list
+SetRule s list NoSuchStep = InTable s list
 
 -- the rule behind each refusal: both lists have a place for each task, and the set names steps of the table
 abbrev pub WindowsRule : System → List ℕ → List ℕ → CallRefusal → Type 0

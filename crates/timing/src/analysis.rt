@@ -1,128 +1,75 @@
-// What one question about a set works out once.
-ghost use Rattle.std.specs.Prelude.{◌≡◌, ℕ, ◌<◌, true, List, length, take, is_some, slice_index};
-ghost use Rattle.model.specs.Lookup.{rank};
+// What one question about an assignment works out once.
+ghost use Rattle.std.specs.Prelude.{◌≡◌, ℕ, ◌<◌, length, take, Decides, MatchResult};
 ghost use Rattle.model.specs.Of.{of};
-ghost use Rattle.model.specs.System.{task_at as task_of};
-ghost use Rattle.timing.specs.Analysis.{Describes};
+ghost use Rattle.model.specs.Refusals.{call_number, First};
 ghost use Rattle.timing.specs.Demand.{Judged};
-ghost use Rattle.timing.specs.Times.{Covers, InTable, clock, time, loads as loads_of, holds as holds_of};
-ghost use Rattle.timing.specs.Windows.{demand_at, task as task_at};
+ghost use Rattle.timing.specs.Times.{front, loads as loads_of, holds as holds_of};
+ghost use Rattle.timing.specs.Windows.{own, task, demand_at, MeetsAt, AllMeet, SetRule};
 
-use crate::demand::{Load, window};
-use crate::holds::{Hold, blocking, ceilings};
+use crate::assignment::Assignment;
+use crate::demand::{Demand, Load};
+use crate::holds::{Hold, blocking};
+use arrayvec::ArrayVec;
 use model::kinds::{MAX_SECTIONS, MAX_TASKS};
-use model::lookup::find;
+use model::refusals::CallRefusal;
 use model::roster::Roster;
 
-const IDLE: Load = Load {
-    time: 0,
-    cost: 0,
-    period: 0,
-    jitter: 0,
-};
-
-const FREE: Hold = Hold {
-    owner: 0,
-    ceiling: 0,
-    time: 0,
-};
-
-// The time of so many cycles at a step.
-pub(crate) fn time_at(roster: &Roster, cycles: u32, step: u8) -> u64
-    requires { step < length (of roster.now).steps }
-    ensures { result ≡ time cycles (clock (of roster.now) step) }
-{
-    let clock = roster.steps()[step as usize].clock;
-    (cycles as u64 * 1000).div_ceil(clock as u64)
+#[derive(Drop)]
+pub(crate) struct Analysis<'a> {
+    given: Assignment<'a>,
+    loads: ArrayVec<Load, MAX_TASKS>,
+    holds: ArrayVec<Hold, MAX_SECTIONS>,
+    ghost loads_are: { loads.items ≡ loads_of (of given.roster.now) given.set.now },
+    ghost holds_are: { holds.items ≡ holds_of (of given.roster.now) given.set.now },
 }
 
-// The step that a set names for the task of a priority.
-fn step_of(roster: &Roster, set: &[u8], priority: u32) -> u8
-    requires long { Covers (of roster.now) set.now }
-    requires steps { InTable (of roster.now) set.now }
-    requires stands { is_some (task_of priority (of roster.now).tasks) ≡ true }
-    ensures value { result ≡ slice_index set.now (rank priority (of roster.now).tasks) }
-    ensures named { result < length (of roster.now).steps }
-{
-    match find(roster.tasks(), priority) {
-        Some(at) => set[at],
-        None => 0,
-    }
-}
-
-// The loads of the tasks, at the front.
-fn loads(roster: &Roster, set: &[u8]) -> [Load; MAX_TASKS]
-    requires long { Covers (of roster.now) set.now }
-    requires steps { InTable (of roster.now) set.now }
-    ensures value { take (length (of roster.now).tasks) result ≡ loads_of (of roster.now) set.now }
-    ensures len { length result ≡ 16 }
-{
-    let switch = roster.switch_time() as u64;
-    let mut loads = [IDLE; MAX_TASKS];
-    for (i, task) in roster.tasks().iter().enumerate() {
-        let time = time_at(roster, task.cycles, set[i]);
-        loads[i] = Load {
-            time,
-            cost: time + switch,
-            period: task.period as u64,
-            jitter: task.jitter as u64,
-        };
-    }
-    loads
-}
-
-// The holds of the sections, at the front.
-fn holds(roster: &Roster, set: &[u8]) -> [Hold; MAX_SECTIONS]
-    requires long { Covers (of roster.now) set.now }
-    requires steps { InTable (of roster.now) set.now }
-    ensures value { take (length (of roster.now).sections) result ≡ holds_of (of roster.now) set.now }
-    ensures len { length result ≡ 32 }
-{
-    let ceilings = ceilings(roster.sections());
-    let mut holds = [FREE; MAX_SECTIONS];
-    for (i, section) in roster.sections().iter().enumerate() {
-        let step = step_of(roster, set, section.owner);
-        holds[i] = Hold {
-            owner: section.owner,
-            ceiling: ceilings[section.resource as usize],
-            time: time_at(roster, section.cycles, step),
-        };
-    }
-    holds
-}
-
-// The loads and the holds that a set gives a roster.
-#[derive(Clone, Copy)]
-pub(crate) struct Analysis {
-    loads: [Load; MAX_TASKS],
-    holds: [Hold; MAX_SECTIONS],
-}
-
-impl Analysis {
-    pub(crate) fn new(roster: &Roster, set: &[u8]) -> Analysis
-        requires long { Covers (of roster.now) set.now }
-        requires steps { InTable (of roster.now) set.now }
-        ensures { Describes (of roster.now) set.now result }
+impl<'a> Analysis<'a> {
+    // The analysis of the set that a list stands for.
+    pub(crate) fn new(roster: &'a Roster, list: &'a [u8]) -> Result<Analysis<'a>, CallRefusal>
+        ensures { MatchResult result
+            (λ a. (a.given.roster.now ≡ roster.now) × (a.given.set.now ≡ front (of roster.now) list.now))
+            (First call_number (SetRule (of roster.now) list.now)) }
     {
-        Analysis {
-            loads: loads(roster, set),
-            holds: holds(roster, set),
+        let given = Assignment::new(roster, list)?;
+        let loads = given.loads();
+        let holds = given.holds();
+        Ok(Analysis {
+            given,
+            loads,
+            holds,
+        })
+    }
+
+    // What the task at a place asks of the processor. A place is asked for as an index is, by a `requires`.
+    fn demand(&self, place: usize) -> Demand<'_>
+        requires { place < length (of self.now.given.roster.now).tasks }
+        ensures own { result.own ≡ own (of self.now.given.roster.now) self.now.given.set.now place }
+        ensures urgent { result.urgent.now
+            ≡ take place (loads_of (of self.now.given.roster.now) self.now.given.set.now) }
+    {
+        let priority = self.given.roster.tasks()[place].priority;
+        Demand {
+            own: self.loads[place].time + blocking(&self.holds, priority),
+            urgent: &self.loads[..place],
         }
     }
 
     // The window of the task at a place, where it meets the deadline.
-    pub(crate) fn window(&self, roster: &Roster, place: usize) -> Option<u64>
-        requires place { place < length (of roster.now).tasks }
-        requires describes { (set : List ℕ) × Covers (of roster.now) set × InTable (of roster.now) set × Describes (of roster.now) set self.now }
-        ensures { (set : List ℕ) → Describes (of roster.now) set self.now → Judged (demand_at (of roster.now) set place) (task_at (of roster.now) place).jitter (task_at (of roster.now) place).deadline result }
+    pub(crate) fn window(&self, place: usize) -> Option<u64>
+        requires { place < length (of self.now.given.roster.now).tasks }
+        ensures { Judged (demand_at (of self.now.given.roster.now) self.now.given.set.now place)
+            (task (of self.now.given.roster.now) place).jitter
+            (task (of self.now.given.roster.now) place).deadline
+            result }
     {
-        let task = roster.tasks()[place];
-        let blocked = blocking(&self.holds[0..roster.sections().len()], task.priority);
-        window(
-            self.loads[place].time + blocked,
-            &self.loads[0..place],
-            task.jitter as u64,
-            task.deadline as u64,
-        )
+        let task = self.given.roster.tasks()[place];
+        self.demand(place)
+            .window(u64::from(task.jitter), u64::from(task.deadline))
+    }
+
+    pub(crate) fn all_meet(&self) -> bool
+        ensures { Decides result (AllMeet (of self.now.given.roster.now) self.now.given.set.now) }
+    {
+        (0..self.given.roster.tasks().len()).all(|place| self.window(place).is_some())
     }
 }

@@ -1,6 +1,7 @@
 // The response iteration, over plain numbers.
 ghost use Rattle.std.specs.Prelude.{◌≡◌, ◌^◌, ◌<◌, ◌≤◌, length, sum_by};
 ghost use Rattle.std.specs.List.{AllByRecursion};
+ghost use Rattle.std.proofs.Props.{props};
 ghost use Rattle.timing.specs.Bounds.{max_own, max_period, max_loads};
 ghost use Rattle.timing.specs.Demand.{demand, interference, share, Bounded, Under, Judged};
 
@@ -8,7 +9,7 @@ ghost use Rattle.timing.specs.Demand.{demand, interference, share, Bounded, Unde
 const SCALE: u64 = 1 << 32;
 
 // What a more urgent task adds to the demand of those below it.
-#[derive(Clone, Copy)]
+#[derive(Clone, Copy, Default)]
 pub(crate) struct Load {
     pub time: u64,
     // what each release takes: the time and the switch time
@@ -34,64 +35,57 @@ impl Load {
     }
 }
 
-fn demand_over(own: u64, urgent: &[Load], w: u64) -> u64
-    requires own { own ≤ max_own }
-    requires few { length urgent.now ≤ max_loads }
-    requires bounded { AllByRecursion Bounded urgent.now }
-    requires short { w ≤ max_period }
-    ensures { result ≡ demand own urgent.now w }
-{
-    let mut total = own;
-    for load in urgent {
-        total += load.within(w);
+// What a task asks of the processor: what it needs itself, and the loads of the more urgent tasks.
+#[derive(Drop)]
+pub(crate) struct Demand<'a> {
+    pub own: u64,
+    pub urgent: &'a [Load],
+    ghost positive: { 1 ≤ own },
+    ghost small: { own ≤ max_own },
+    ghost few: { length urgent.now ≤ max_loads },
+    ghost bounded: { AllByRecursion Bounded urgent.now } by { Prim.hlevel props },
+}
+
+impl Demand<'_> {
+    fn over(&self, w: u64) -> u64
+        requires { w ≤ max_period }
+        ensures { result ≡ demand self.now.own self.now.urgent.now w }
+    {
+        self.own + self.urgent.iter().map(|load| load.within(w)).sum::<u64>()
     }
-    total
-}
 
-fn shares(urgent: &[Load]) -> u64
-    requires few { length urgent.now ≤ max_loads }
-    requires bounded { AllByRecursion Bounded urgent.now }
-    ensures { result ≡ sum_by share urgent.now }
-{
-    let mut total = 0;
-    for load in urgent {
-        total += load.share();
+    fn shares(&self) -> u64
+        ensures { result ≡ sum_by share self.now.urgent.now }
+    {
+        self.urgent.iter().map(Load::share).sum()
     }
-    total
-}
 
-// No window is shorter than this: over any stretch each more urgent task takes at least its share of the processor.
-fn start(own: u64, urgent: &[Load]) -> u64
-    requires positive { 1 ≤ own }
-    requires own { own ≤ max_own }
-    requires few { length urgent.now ≤ max_loads }
-    requires bounded { AllByRecursion Bounded urgent.now }
-    ensures under { Under (demand own urgent.now) result }
-    ensures fits { result < 2 ^ 63 }
-{
-    let spare = SCALE.saturating_sub(shares(urgent)).max(1);
-    (own * SCALE).div_ceil(spare)
-}
+    // No window is shorter than this: over any stretch each more urgent task takes at least its share of the processor.
+    fn start(&self) -> u64
+        ensures under { Under (demand self.now.own self.now.urgent.now) result }
+        ensures fits { result < 2 ^ 63 }
+    {
+        let spare = SCALE.saturating_sub(self.shares()).max(1);
+        (self.own * SCALE).div_ceil(spare)
+    }
 
-// The window of a task that needs `own` itself below the tasks of `urgent`, where it meets the deadline.
-pub(crate) fn window(own: u64, urgent: &[Load], jitter: u64, deadline: u64) -> Option<u64>
-    requires positive { 1 ≤ own }
-    requires own { own ≤ max_own }
-    requires few { length urgent.now ≤ max_loads }
-    requires bounded { AllByRecursion Bounded urgent.now }
-    requires late { jitter ≤ max_period }
-    requires due { deadline ≤ max_period }
-    ensures { Judged (demand own urgent.now) jitter deadline result }
-{
-    let mut w = start(own, urgent);
-    loop {
-        if w + jitter > deadline {
-            break None;
+    // The window in which this is done, where it meets the deadline.
+    pub(crate) fn window(&self, jitter: u64, deadline: u64) -> Option<u64>
+        requires late { jitter ≤ max_period }
+        requires due { deadline ≤ max_period }
+        ensures { Judged (demand self.now.own self.now.urgent.now) jitter deadline result }
+    {
+        let mut w = self.start();
+        // a rule of the project: the window comes out of a loop by `break`
+        loop {
+            if w + jitter > deadline {
+                break None;
+            }
+            let next = self.over(w);
+            if next == w {
+                break Some(w);
+            }
+            w = next;
         }
-        let next = demand_over(own, urgent, w);
-        if next == w {
-            break Some(w);
-        }
-        w = next;
     }
 }

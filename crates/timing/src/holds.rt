@@ -8,10 +8,11 @@ use model::kinds::Section;
 
 const RESOURCES: usize = 8;
 
+// Less urgent than every priority, so that `min` may start from it; an Option is no plainer, as no hold would have its None.
 const NO_CEILING: u32 = 256;
 
 // A resource that is held for some time.
-#[derive(Clone, Copy)]
+#[derive(Clone, Copy, Default)]
 pub(crate) struct Hold {
     // the priority of the task that holds it
     pub(crate) owner: u32,
@@ -35,6 +36,7 @@ pub(crate) fn ceilings(sections: &[Section]) -> [u32; RESOURCES]
 {
     let mut ceilings = [NO_CEILING; RESOURCES];
     for section in sections {
+        // std has no `From` for a u32 as usize
         let resource = section.resource as usize;
         ceilings[resource] = ceilings[resource].min(section.owner);
     }
@@ -45,11 +47,10 @@ pub(crate) fn ceilings(sections: &[Section]) -> [u32; RESOURCES]
 pub(crate) fn blocking(holds: &[Hold], priority: u32) -> u64
     ensures { result ≡ longest priority holds.now }
 {
-    let mut longest: u64 = 0;
-    for hold in holds {
-        if hold.blocks(priority) {
-            longest = longest.max(hold.time);
-        }
-    }
-    longest
+    holds
+        .iter()
+        .filter(|hold| hold.blocks(priority))
+        .map(|hold| hold.time)
+        .max()
+        .unwrap_or(0)
 }

@@ -2,6 +2,7 @@
 #![tactic(auto)]
 
 mod analysis;
+mod assignment;
 mod demand;
 mod holds;
 pub mod sets;

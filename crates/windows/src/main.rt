@@ -3,8 +3,10 @@
 
 mod trouble;
 
-use model::kinds::{Section, Step, Task};
+use model::kinds::Task;
+use model::refusals::Refusal;
 use model::roster::Roster;
+use sample::{FEED, STROBE, shared};
 use schedulability::density::Density;
 use schedulability::margin::Margin;
 use schedulability::pair::Pair;
@@ -14,41 +16,8 @@ use tariffs::charge::charge;
 use tariffs::energy::Energy;
 use tariffs::paired::Paired;
 use tariffs::peak::Peak;
-use timing::windows::windows;
+use timing::windows::{all_meet, windows};
 use trouble::Trouble;
-
-const STEPS: [Step; 3] = [
-    Step {
-        clock: 40_000,
-        voltage: 180,
-    },
-    Step {
-        clock: 20_000,
-        voltage: 130,
-    },
-    Step {
-        clock: 10_000,
-        voltage: 100,
-    },
-];
-
-const STROBE: Task = Task {
-    priority: 1,
-    cycles: 40_000,
-    period: 5_000,
-    deadline: 4_000,
-    jitter: 0,
-    floor: None,
-};
-
-const FEED: Task = Task {
-    priority: 2,
-    cycles: 80_000,
-    period: 10_000,
-    deadline: 10_000,
-    jitter: 0,
-    floor: None,
-};
 
 // No roster takes it: its deadline is above its period.
 const LATE: Task = Task {
@@ -60,116 +29,106 @@ const LATE: Task = Task {
     floor: None,
 };
 
-// Both tasks hold the same resource, so the less urgent one may block the other.
-fn sample() -> Result<Roster, Trouble> {
-    let mut roster = Roster::new();
-    roster.load(&STEPS, 0)?;
-    roster.enter(STROBE)?;
-    roster.enter(FEED)?;
-    roster.enter_section(Section {
-        owner: 1,
-        resource: 0,
-        cycles: 8_000,
-    })?;
-    roster.enter_section(Section {
-        owner: 2,
-        resource: 0,
-        cycles: 10_000,
-    })?;
-    Ok(roster)
+// What prints, and the roster that it prints of.
+#[derive(Drop)]
+struct Tour<'a> {
+    rt: &'a HostRuntime,
+    roster: Roster,
 }
 
+// The set of a number, of three steps for each of two tasks.
+// Two digits in base 3, as sets are numbered; to walk an odometer would be longer.
+fn set_of(number: u8) -> [u8; 2] {
+    [number / 3, number % 3]
+}
+
+// A bool prints as true or false, and a type with a Display of its own would be longer than this line.
 fn word(yes: bool) -> &'static str {
     if yes { "yes" } else { "no" }
 }
 
-fn show_windows(
-    rt: &HostRuntime,
-    roster: &Roster,
-    number: u8,
-    set: [u8; 2],
-) -> Result<(), Trouble> {
-    let [first, second] = set;
-    let mut found = [0; 2];
-    windows(roster, &set, &mut found)?;
-    let [w, v] = found;
-    let verdict = if w > 0 && v > 0 {
-        "all deadlines are met"
-    } else {
-        "a deadline is missed"
-    };
-    println!(rt; "set {number}: steps {first} {second}, windows {w} {v}, {verdict}")?;
-    Ok(())
-}
-
-fn show_tests(rt: &HostRuntime, roster: &Roster, set: [u8; 2]) -> Result<(), Trouble> {
-    let margin = Margin {
-        percent: 10,
-        below: Response,
-    };
-    let both = Pair {
-        first: Response,
-        second: Density,
-    };
-    let response = word(Response.ask(roster, &set));
-    let density = word(Density.ask(roster, &set));
-    let spare = word(margin.ask(roster, &set));
-    let pair = word(both.ask(roster, &set));
-    println!(rt;
-        "  response {response}, density {density}, response with 10 percent {spare}, both {pair}"
-    )?;
-    Ok(())
-}
-
-fn show_charges(rt: &HostRuntime, roster: &Roster, set: [u8; 2]) -> Result<(), Trouble> {
-    let energy: Energy = charge(roster, &set);
-    let peak: Peak = charge(roster, &set);
-    let paired: Paired<Energy, Peak> = charge(roster, &set);
-    let amount = energy.amount;
-    let voltage = peak.voltage;
-    let first = paired.first.amount;
-    let second = paired.second.voltage;
-    println!(rt; "  energy {amount}, peak {voltage}, energy then peak {first} {second}")?;
-    Ok(())
-}
-
-fn show(rt: &HostRuntime, roster: &Roster, number: u8) -> Result<(), Trouble> {
-    let set = [number / 3, number % 3];
-    show_windows(rt, roster, number, set)?;
-    show_tests(rt, roster, set)?;
-    show_charges(rt, roster, set)
-}
-
-// The density test passes no roster with sections, so it is asked again without them.
-fn without_sections(rt: &HostRuntime, roster: &mut Roster) -> Result<(), Trouble> {
-    roster.strike_section(1, 0)?;
-    roster.strike_section(2, 0)?;
-    println!(rt; "without its sections")?;
-    for number in 0..9u8 {
-        println!(rt; "set {number}")?;
-        show_tests(rt, roster, [number / 3, number % 3])?;
+impl<'a> Tour<'a> {
+    fn print_windows(&self, number: u8) -> Result<(), Trouble> {
+        let set = set_of(number);
+        let [first, second] = set;
+        let mut found = [0; 2];
+        windows(&self.roster, &set, &mut found)?;
+        let [w, v] = found;
+        let verdict = if all_meet(&self.roster, &set) {
+            "all deadlines are met"
+        } else {
+            "a deadline is missed"
+        };
+        println!(self.rt; "set {number}: steps {first} {second}, windows {w} {v}, {verdict}")?;
+        Ok(())
     }
-    Ok(())
-}
 
-fn bad_entry(rt: &HostRuntime, roster: &mut Roster) -> Result<(), Trouble> {
-    if let Err(refusal) = roster.enter(LATE) {
-        let number = refusal.number();
-        println!(rt; "a task with period 2000 and deadline 3000: refusal {number}, {refusal}")?;
+    fn print_tests(&self, number: u8) -> Result<(), Trouble> {
+        let margin = Margin {
+            percent: 10,
+            below: Response,
+        };
+        let both = Pair {
+            first: Response,
+            second: Density,
+        };
+        let set = set_of(number);
+        let response = word(Response.ask(&self.roster, &set));
+        let density = word(Density.ask(&self.roster, &set));
+        let spare = word(margin.ask(&self.roster, &set));
+        let pair = word(both.ask(&self.roster, &set));
+        println!(self.rt;
+            "  response {response}, density {density}, response with 10 percent {spare}, both {pair}"
+        )?;
+        Ok(())
     }
-    Ok(())
-}
 
-fn run(rt: &HostRuntime) -> Result<(), Trouble> {
-    let mut roster = sample()?;
-    println!(rt; "a window of 0 says that the task misses its deadline")?;
-    for number in 0..9u8 {
-        show(rt, &roster, number)?;
+    fn print_charges(&self, number: u8) -> Result<(), Trouble> {
+        let set = set_of(number);
+        let energy: Energy = charge(&self.roster, &set);
+        let peak: Peak = charge(&self.roster, &set);
+        let paired: Paired<Energy, Peak> = charge(&self.roster, &set);
+        println!(self.rt; "  energy {energy}, peak {peak}, energy then peak {paired}")?;
+        Ok(())
     }
-    without_sections(rt, &mut roster)?;
-    bad_entry(rt, &mut roster)
+
+    fn print_sets(&self) -> Result<(), Trouble> {
+        println!(self.rt; "a window of 0 says that the task misses its deadline")?;
+        for number in 0..9u8 {
+            self.print_windows(number)?;
+            self.print_tests(number)?;
+            self.print_charges(number)?;
+        }
+        Ok(())
+    }
+
+    // The density test passes no roster with sections, so it is asked again without them.
+    fn print_without_sections(&mut self) -> Result<(), Trouble> {
+        self.roster.strike_section(1, 0)?;
+        self.roster.strike_section(2, 0)?;
+        println!(self.rt; "without its sections")?;
+        for number in 0..9u8 {
+            println!(self.rt; "set {number}")?;
+            self.print_tests(number)?;
+        }
+        Ok(())
+    }
+
+    fn print_bad_entry(&mut self) -> Result<(), Trouble> {
+        if let Err(refusal) = self.roster.enter(LATE) {
+            let number = refusal.number();
+            println!(self.rt;
+                "a task with period 2000 and deadline 3000: refusal {number}, {refusal}"
+            )?;
+        }
+        Ok(())
+    }
 }
 
 fn main(rt: HostRuntime) -> Result<(), Trouble> {
-    run(&rt)
+    let roster = shared::<Trouble>(STROBE, FEED)?;
+    let mut tour = Tour { rt: &rt, roster };
+    tour.print_sets()?;
+    tour.print_without_sections()?;
+    tour.print_bad_entry()
 }

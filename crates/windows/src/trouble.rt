@@ -1,35 +1,16 @@
 // What can end the program early.
 use model::refusals::{CallRefusal, RosterRefusal, StepsRefusal};
 use std::io;
+use thiserror::Error;
 
-#[derive(Debug, Drop)]
+#[derive(Debug, Drop, Error)]
 pub enum Trouble {
-    Steps(StepsRefusal),
-    Roster(RosterRefusal),
-    Call(CallRefusal),
-    Io(io::Error),
-}
-
-impl From<StepsRefusal> for Trouble {
-    fn from(refusal: StepsRefusal) -> Trouble {
-        Trouble::Steps(refusal)
-    }
-}
-
-impl From<RosterRefusal> for Trouble {
-    fn from(refusal: RosterRefusal) -> Trouble {
-        Trouble::Roster(refusal)
-    }
-}
-
-impl From<CallRefusal> for Trouble {
-    fn from(refusal: CallRefusal) -> Trouble {
-        Trouble::Call(refusal)
-    }
-}
-
-impl From<io::Error> for Trouble {
-    fn from(error: io::Error) -> Trouble {
-        Trouble::Io(error)
-    }
+    #[error(transparent)]
+    Steps(#[from] StepsRefusal),
+    #[error(transparent)]
+    Roster(#[from] RosterRefusal),
+    #[error(transparent)]
+    Call(#[from] CallRefusal),
+    #[error(transparent)]
+    Io(#[from] io::Error),
 }

@@ -2,7 +2,6 @@
 ghost use Rattle.std.specs.Prelude.{◌≡◌};
 ghost use Rattle.model.specs.Calls.{LoadRule, loaded, EnterRule, entered, AlterRule, altered, StrikeRule, struck, SectionRule, section_entered, SectionStrikeRule, section_struck};
 ghost use Rattle.model.specs.Of.{of};
-ghost use Rattle.model.specs.Records.{other_priority, other_owner, other_section};
 ghost use Rattle.model.specs.Refusals.{steps_number, roster_number, AllKept, Outcome};
 ghost use Rattle.model.specs.System.{new_system};
 
@@ -12,67 +11,11 @@ use crate::kinds::{Section, Step, Task};
 use crate::lookup::{find, rank};
 use crate::refusals::{RosterRefusal, StepsRefusal};
 use crate::table::Table;
-use crate::table::calls::Choice;
 
 const SLOWEST: Step = Step {
     clock: 1_000,
     voltage: 1,
 };
-
-// What fills the unused places of a table.
-const NO_TASK: Task = Task {
-    priority: 0,
-    cycles: 0,
-    period: 0,
-    deadline: 0,
-    jitter: 0,
-    floor: None,
-};
-
-const NO_SECTION: Section = Section {
-    owner: 0,
-    resource: 0,
-    cycles: 0,
-};
-
-// The tasks of other priorities.
-#[derive(Clone, Copy)]
-struct OtherPriority(u32);
-
-impl Choice<Task> for OtherPriority {
-    ghost chosen = { λ s t. other_priority s.0 t };
-
-    fn chooses(&self, task: &Task) -> bool {
-        task.priority != self.0
-    }
-}
-
-// The sections of other owners.
-#[derive(Clone, Copy)]
-struct OtherOwner(u32);
-
-impl Choice<Section> for OtherOwner {
-    ghost chosen = { λ s c. other_owner s.0 c };
-
-    fn chooses(&self, section: &Section) -> bool {
-        section.owner != self.0
-    }
-}
-
-// The sections of other owners or on other resources.
-#[derive(Clone, Copy)]
-struct OtherSection {
-    owner: u32,
-    resource: u32,
-}
-
-impl Choice<Section> for OtherSection {
-    ghost chosen = { λ s c. other_section s.owner s.resource c };
-
-    fn chooses(&self, section: &Section) -> bool {
-        !(section.owner == self.owner && section.resource == self.resource)
-    }
-}
 
 impl Roster {
     // A step table, and neither task nor section.
@@ -80,13 +23,11 @@ impl Roster {
         requires { AllKept (LoadRule steps.now switch) }
         ensures { of result ≡ loaded steps.now switch }
     {
-        let mut table = Table::empty(SLOWEST);
-        table.copy_from(steps);
         Roster {
-            steps: table,
+            steps: Table::from_slice(steps),
             switch,
-            tasks: Table::empty(NO_TASK),
-            sections: Table::empty(NO_SECTION),
+            tasks: Table::empty(),
+            sections: Table::empty(),
         }
     }
 
@@ -157,8 +98,8 @@ impl Roster {
         ensures { Outcome roster_number (StrikeRule (of self.old) priority) (of self.old) (struck (of self.old) priority) (of self.new) result }
     {
         self.judge_striking(priority)?;
-        self.tasks.retain(&OtherPriority(priority));
-        self.sections.retain(&OtherOwner(priority));
+        self.tasks.retain(|task| task.priority != priority);
+        self.sections.retain(|section| section.owner != priority);
         Ok(())
     }
 
@@ -174,7 +115,7 @@ impl Roster {
         ensures { Outcome roster_number (SectionStrikeRule (of self.old) owner resource) (of self.old) (section_struck (of self.old) owner resource) (of self.new) result }
     {
         self.judge_section_striking(owner, resource)?;
-        self.sections.retain(&OtherSection { owner, resource });
+        self.sections.retain(|section| !(section.owner == owner && section.resource == resource));
         Ok(())
     }
 }

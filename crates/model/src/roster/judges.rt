@@ -1,9 +1,10 @@
 // What each call would be refused for: the rules in the order of their numbers.
-ghost use Rattle.std.specs.Prelude.{◌≡◌, is_some, Decides};
-ghost use Rattle.model.specs.Calls.{LoadRule, EnterRule, AlterRule, StrikeRule, SectionRule, SectionStrikeRule};
+ghost use Rattle.std.specs.Prelude.{◌≡◌, is_some, Decides, MatchResult};
+ghost use Rattle.model.specs.Calls.{LoadRule, TaskRule, EnterRule, AlterRule, StrikeRule, SectionRule, SectionStrikeRule};
 ghost use Rattle.model.specs.declared.refusals.RosterRefusal.TheVariants.{Overlong};
 ghost use Rattle.model.specs.Of.{of};
-ghost use Rattle.model.specs.Refusals.{steps_number, roster_number, Verdict};
+ghost use Rattle.model.specs.Records.{TaskBounded, Ordered, FloorFits};
+ghost use Rattle.model.specs.Refusals.{steps_number, roster_number, First, Verdict};
 ghost use Rattle.model.specs.System.{task_at};
 
 use super::Roster;
@@ -12,6 +13,7 @@ use crate::lookup::find;
 use crate::refusals::{RosterRefusal, StepsRefusal};
 use crate::rules;
 
+// Steps and switch time come as `load` is given them: as one value they would be taken apart again at once.
 pub(crate) fn judge_table(steps: &[Step], switch: u32) -> Result<(), StepsRefusal>
     ensures { Verdict steps_number (LoadRule steps.now switch) result }
 {
@@ -23,6 +25,22 @@ pub(crate) fn judge_table(steps: &[Step], switch: u32) -> Result<(), StepsRefusa
     }
     if !rules::falling(steps) {
         return Err(StepsRefusal::Falling);
+    }
+    Ok(())
+}
+
+// What a task is refused for on a table of that many steps, before the roster is looked at.
+fn judge_task(task: &Task, steps: usize) -> Result<(), RosterRefusal>
+    ensures { MatchResult result (λ _. TaskBounded task.now × Ordered task.now × FloorFits steps task.now) (First roster_number (TaskRule steps task.now)) }
+{
+    if !rules::task_bounded(task) {
+        return Err(RosterRefusal::Bound);
+    }
+    if !rules::ordered(task) {
+        return Err(RosterRefusal::Deadline);
+    }
+    if !rules::floor_fits(task, steps) {
+        return Err(RosterRefusal::Floor);
     }
     Ok(())
 }
@@ -49,15 +67,7 @@ impl Roster {
     pub(crate) fn judge_entry(&self, task: &Task) -> Result<(), RosterRefusal>
         ensures { Verdict roster_number (EnterRule (of self.now) task.now) result }
     {
-        if !rules::task_bounded(task) {
-            return Err(RosterRefusal::Bound);
-        }
-        if !rules::ordered(task) {
-            return Err(RosterRefusal::Deadline);
-        }
-        if !rules::floor_fits(task, self.steps.as_slice().len()) {
-            return Err(RosterRefusal::Floor);
-        }
+        judge_task(task, self.steps.as_slice().len())?;
         if self.stands(task.priority) {
             return Err(RosterRefusal::Taken);
         }
@@ -70,15 +80,7 @@ impl Roster {
     pub(crate) fn judge_alteration(&self, task: &Task) -> Result<(), RosterRefusal>
         ensures { Verdict roster_number (AlterRule (of self.now) task.now) result }
     {
-        if !rules::task_bounded(task) {
-            return Err(RosterRefusal::Bound);
-        }
-        if !rules::ordered(task) {
-            return Err(RosterRefusal::Deadline);
-        }
-        if !rules::floor_fits(task, self.steps.as_slice().len()) {
-            return Err(RosterRefusal::Floor);
-        }
+        judge_task(task, self.steps.as_slice().len())?;
         if !self.stands(task.priority) {
             return Err(RosterRefusal::Absent);
         }
@@ -121,6 +123,7 @@ impl Roster {
         Ok(())
     }
 
+    // Owner and resource come as the call is given them: as one value they would be taken apart again at once.
     pub(crate) fn judge_section_striking(
         &self,
         owner: u32,

@@ -1,56 +1,17 @@
-ghost use Rattle.std.specs.Prelude.{◌≡◌, ◌<◌, ◌≤◌, Bool, true, [], ◌∷◌, ◌++◌, map, length, Decides, filter, slice_index_or, slice_set};
-ghost use Rattle.std.specs.List.{insert, AllByRecursion};
+ghost use Rattle.std.specs.Prelude.{◌≡◌, ◌<◌, ◌≤◌, Bool, Option, Some, None, MatchOption, [], ◌∷◌, ◌++◌, map, length, filter, slice_index_or, slice_set};
+ghost use Rattle.std.specs.Fn.{FnReturnsAt};
+ghost use Rattle.std.specs.List.{insert, Contains};
 ghost use Rattle.model.specs.Held.{held};
 ghost use Rattle.model.specs.Rewrite.{blank_task, rewritten};
 
 use super::Table;
 use crate::kinds::Task;
 
-// A yes-or-no about an item, as a value: what a closure would be.
-pub trait Choice<T> {
-    ghost chosen: { Self → T → Bool };
-
-    fn chooses(&self, item: &T) -> bool
-        ensures { result ≡ chosen self.now item.now };
-}
-
-// Whether every item of a list is chosen.
-pub(crate) fn every<T, C: Choice<T>>(items: &[T], choice: &C) -> bool
-    ensures { Decides result (AllByRecursion (λ x. C.Choice.chosen choice.now x ≡ true) items.now) }
-{
-    for item in items {
-        if !choice.chooses(item) {
-            return false;
-        }
-    }
-    true
-}
-
-// What is done to an item, as a value.
-pub trait Change<T> {
-    ghost changed: { Self → T → T };
-
-    fn change(&self, item: &mut T)
-        ensures { item.new ≡ changed self.now item.old };
-}
-
 impl<T: Copy, const N: usize> Table<T, N> {
-    // An empty table; the array has to hold something, and no call reads it.
-    pub(crate) fn empty(filler: T) -> Self
-        ensures { held result ≡ [] }
-    {
-        Table {
-            items: [filler; N],
-            len: 0,
-        }
-    }
-
     pub(crate) fn as_slice(&self) -> &[T]
         ensures { result.now ≡ held self.now }
     {
-        let n = self.len;
-        let all = &self.items[..];
-        &all[0..n]
+        &self.items[..self.len]
     }
 
     pub(crate) fn push(&mut self, item: T)
@@ -66,51 +27,57 @@ impl<T: Copy, const N: usize> Table<T, N> {
         requires within { at ≤ length (held self.old) }
         ensures { held self.new ≡ insert (held self.old) at item }
     {
-        let mut k = self.len;
-        while at < k {
-            let moved = self.items[k - 1];
-            self.items[k] = moved;
-            k -= 1;
+        self.push(item);
+        let len = self.len;
+        self.items.as_mut_slice()[at..len].rotate_right(1);
+    }
+}
+
+impl<T: Copy + Default, const N: usize> Table<T, N> {
+    // The array has to hold something; no call reads it.
+    pub(crate) fn empty() -> Self
+        ensures { held result ≡ [] }
+    {
+        Table {
+            items: [T::default(); N],
+            len: 0,
         }
-        self.items[at] = item;
-        self.len += 1;
     }
 
-    // Keeps the items that `choice` chooses, in their order.
-    pub(crate) fn retain<C: Choice<T>>(&mut self, choice: &C)
-        ensures { held self.new ≡ filter (C.Choice.chosen choice.now) (held self.old) }
+    pub(crate) fn from_slice(source: &[T]) -> Self
+        requires { length source.now ≤ N }
+        ensures { held result ≡ source.now }
     {
-        let mut kept = 0;
-        for i in 0..self.len {
-            let item = self.items[i];
-            if choice.chooses(&item) {
-                self.items[kept] = item;
-                kept += 1;
+        let len = source.len();
+        let mut items = [T::default(); N];
+        items[..len].copy_from_slice(source);
+        Table { items, len }
+    }
+
+    // Keeps the items that pass the test, in their order.
+    pub(crate) fn retain<F: Fn(&T) -> bool>(&mut self, keep: F)
+        requires { F.IsAlwaysCallable keep }
+        ensures { (test : T → Bool) → ((x : T) (b : Bool) → FnReturnsAt F.Fn keep x b → b ≡ test x) → held self.new ≡ filter test (held self.old) }
+    {
+        let mut kept = Table::empty();
+        for item in self.as_slice() {
+            if keep(item) {
+                kept.push(*item);
             }
         }
-        self.len = kept;
+        *self = kept;
     }
 
-    // Changes each item in its place.
-    pub(crate) fn apply<C: Change<T>>(&mut self, change: &C)
-        ensures { held self.new ≡ map (C.Change.changed change.now) (held self.old) }
+    // Each item with its change, or nothing where one has none.
+    pub(crate) fn try_map<F: Fn(T) -> Option<T>>(&self, change: F) -> Option<Self>
+        requires { F.IsAlwaysCallable change }
+        ensures { (f : T → Option T) → ((x : T) (r : Option T) → F.post change x r → r ≡ f x) → MatchOption result (Contains (map f (held self.now)) None) (λ t. map Some (held t) ≡ map f (held self.now)) }
     {
-        for i in 0..self.len {
-            let mut item = self.items[i];
-            change.change(&mut item);
-            self.items[i] = item;
+        let mut changed = Table::empty();
+        for item in self.as_slice() {
+            changed.push(change(*item)?);
         }
-    }
-
-    // Holds the items of `source`, and nothing else.
-    pub(crate) fn copy_from(&mut self, source: &[T])
-        requires { length source.now ≤ N }
-        ensures { held self.new ≡ source.now }
-    {
-        self.len = 0;
-        for item in source {
-            self.push(*item);
-        }
+        Some(changed)
     }
 }
 

@@ -1,9 +1,10 @@
 // The calls of an odometer.
-ghost use Rattle.std.specs.Prelude.{◌≡◌, ℕ, ◌+◌, ◌<◌, ◌≤◌, min, max};
+ghost use Rattle.std.specs.Prelude.{◌≡◌, ℕ, ◌+◌, ◌^◌, ◌<◌, ◌≤◌, min, max};
 ghost use Rattle.std.specs.List.{AllZip};
+ghost use Rattle.odometer.specs.Counter.{InRange};
 ghost use Rattle.odometer.specs.Digits.{digits, total, Zeros, next_multiple};
 
-use super::{Odometer, turns};
+use super::{MAX_BASE, MAX_PLACES, Odometer, turns};
 
 impl Odometer {
     // At 0. A base outside 1 to 8 is taken as the nearest bound, and more than 16 places as 16.
@@ -12,13 +13,11 @@ impl Odometer {
         ensures places { result.places ≡ min places 16 }
         ensures number { result.number ≡ 0 }
     {
-        let base = base.clamp(1, 8);
         Odometer {
-            base,
-            places: places.min(16),
+            base: base.clamp(1, MAX_BASE),
+            places: places.min(MAX_PLACES),
             number: 0,
-            wheels: [0; 16],
-            powers: turns::powers(base),
+            wheels: [0; MAX_PLACES],
         }
     }
 
@@ -28,30 +27,49 @@ impl Odometer {
         self.number
     }
 
-    // How many numbers there are.
-    pub fn total(&self) -> u64
-        ensures { result ≡ total self.now.base self.now.places }
+    // A power of the base, as far as there are wheels.
+    fn power(&self, k: usize) -> u64
+        requires { k ≤ 16 }
+        ensures { result ≡ self.now.base ^ k }
     {
-        self.powers[self.places]
+        // std has no `From` for a usize as u32
+        u64::from(self.base).pow(k as u32)
+    }
+
+    // How many numbers there are. A caller sees the counter alone, so `range` says what always holds of it.
+    pub fn total(&self) -> u64
+        ensures total { result ≡ total self.now.base self.now.places }
+        ensures range { InRange self.now }
+    {
+        self.power(self.places)
     }
 
     // The digits of the number, the most significant first. Past the last number all are 0.
     pub fn digits(&self) -> &[u8]
         ensures { result.now ≡ digits self.now.base self.now.places self.now.number }
     {
-        &self.wheels[0..self.places]
+        &self.wheels[..self.places]
     }
 
     // The count of zero digits at the end.
     pub fn zeros(&self) -> usize
-        ensures { Zeros self.now.base self.now.places self.now.number result }
+        ensures zeros { Zeros self.now.base self.now.places self.now.number result }
+        ensures range { InRange self.now }
     {
-        for z in 0..self.places {
-            if self.wheels[self.places - 1 - z] != 0 {
-                return z;
-            }
-        }
-        self.places
+        self.wheels[..self.places]
+            .iter()
+            .rev()
+            .take_while(|wheel| **wheel == 0)
+            .count()
+    }
+
+    // The least multiple of base ^ k above the number, where numbers are left.
+    fn next_multiple(&self, k: usize) -> u64
+        requires few { k ≤ self.now.places }
+        requires left { self.now.number < total self.now.base self.now.places }
+        ensures { result ≡ next_multiple self.now.base k self.now.number }
+    {
+        (self.number + 1).next_multiple_of(self.power(k))
     }
 
     // On to the least multiple of base ^ k above the number, or past the last number where that is less.
@@ -60,24 +78,13 @@ impl Odometer {
         ensures places { self.new.places ≡ self.old.places }
         ensures number { self.new.number ≡ min (next_multiple self.old.base k self.old.number) (total self.old.base self.old.places) }
     {
-        let places = self.places;
-        if self.number >= self.powers[places] {
+        if self.number >= self.total() {
             return;
         }
+        let (base, places) = (self.base, self.places);
         let cleared = k.min(places);
-        let power = self.powers[cleared];
-        self.number = (self.number / power + 1) * power;
-        turns::forward(&mut self.wheels[0..places], self.base, cleared);
-    }
-
-    // On to the least multiple of base ^ (z + 1), where the number ends in z zeros.
-    fn past_zeros(&mut self)
-        ensures base { self.new.base ≡ self.old.base }
-        ensures places { self.new.places ≡ self.old.places }
-        ensures number { (z : ℕ) × Zeros self.old.base self.old.places self.old.number z × (self.new.number ≡ min (next_multiple self.old.base (z + 1) self.old.number) (total self.old.base self.old.places)) }
-    {
-        let zeros = self.zeros();
-        self.advance(zeros + 1);
+        self.number = self.next_multiple(cleared);
+        turns::forward(&mut self.wheels[..places], base, cleared);
     }
 
     // On past every number that has in no place a smaller digit than this one.
@@ -87,6 +94,6 @@ impl Odometer {
         ensures number { (z : ℕ) → Zeros self.old.base self.old.places self.old.number z → self.new.number ≡ min (next_multiple self.old.base (z + 1) self.old.number) (total self.old.base self.old.places) }
         ensures passed { (n : ℕ) → self.old.number ≤ n → n < self.new.number → AllZip ◌≤◌ (digits self.old.base self.old.places self.old.number) (digits self.old.base self.old.places n) }
     {
-        self.past_zeros();
+        self.advance(self.zeros() + 1);
     }
 }

@@ -7,12 +7,12 @@ ghost use Rattle.model.specs.System.{System};
 ghost use Rattle.planner.specs.declared.events.Change.TheVariants.{Enter, Alter, Strike, EnterSection, StrikeSection};
 ghost use Rattle.planner.specs.declared.events.Event.{Event as Happening};
 ghost use Rattle.planner.specs.declared.events.Event.TheVariants.{Changed, Planned};
-ghost use Rattle.planner.specs.Calls.{PlanRule, ShowRule, written, Happens, call_of};
-ghost use Rattle.planner.specs.Claim.{Claim, Led, Leads, Named, Seen, told, told_by};
-ghost use Rattle.planner.specs.State.{state, opened};
+ghost use Rattle.planner.specs.Calls.{PlanRule, ShowRule, written, call_of};
+ghost use Rattle.planner.specs.Claim.{Claim, Follows, Led, Named, Seen, told, told_by};
+ghost use Rattle.planner.specs.State.{opened};
 
 use super::Planner;
-use super::search::first_set;
+use super::search::{apply, first_set};
 use crate::events::{Call, Change, Event, Progress};
 use crate::findings::Findings;
 use crate::refusals::SearchRefusal;
@@ -29,7 +29,7 @@ const MAX_ALLOWANCE: u32 = 1_000_000;
 fn judge_allowance(allowance: u32) -> Result<(), SearchRefusal>
     ensures { Verdict search_number (PlanRule allowance) result }
 {
-    if 1 <= allowance && allowance <= MAX_ALLOWANCE {
+    if (1..=MAX_ALLOWANCE).contains(&allowance) {
         Ok(())
     } else {
         Err(SearchRefusal::Allowance)
@@ -39,8 +39,8 @@ fn judge_allowance(allowance: u32) -> Result<(), SearchRefusal>
 impl<Q: Test, C: Tariff> Planner<Q, C> {
     // Takes the roster and the test over; the tariff is a type.
     pub fn open(roster: Roster, test: Q) -> Planner<Q, C>
-        ensures state { state result ≡ opened (of roster) test }
-        ensures led { Led (Q.Test) (C.Amount) (C.Tariff.own) (of roster) test [] (state result) }
+        ensures state { result ≡ opened (of roster) test }
+        ensures led { Led Q.Test C.Tariff (of roster) test [] result }
     {
         Planner {
             roster,
@@ -51,54 +51,50 @@ impl<Q: Test, C: Tariff> Planner<Q, C> {
     }
 
     pub fn enter(&mut self, task: Task) -> Result<(), RosterRefusal>
-        ensures happens { Happens (Q.Test) (C.Amount) (C.Tariff.own) (state self.old) (Changed (Enter task) result) (state self.new) }
-        ensures leads { Leads (Q.Test) (C.Amount) (C.Tariff.own) (state self.old) (Changed (Enter task) result) (state self.new) }
+        ensures { Follows Q.Test C.Tariff self.old (Changed (Enter task) result) self.new }
     {
         self.change(Change::Enter(task))
     }
 
     // Rewrites the task of that priority, and no other.
     pub fn alter(&mut self, task: Task) -> Result<(), RosterRefusal>
-        ensures happens { Happens (Q.Test) (C.Amount) (C.Tariff.own) (state self.old) (Changed (Alter task) result) (state self.new) }
-        ensures leads { Leads (Q.Test) (C.Amount) (C.Tariff.own) (state self.old) (Changed (Alter task) result) (state self.new) }
+        ensures { Follows Q.Test C.Tariff self.old (Changed (Alter task) result) self.new }
     {
         self.change(Change::Alter(task))
     }
 
     // Removes a task with its sections.
     pub fn strike(&mut self, priority: u32) -> Result<(), RosterRefusal>
-        ensures happens { Happens (Q.Test) (C.Amount) (C.Tariff.own) (state self.old) (Changed (Strike priority) result) (state self.new) }
-        ensures leads { Leads (Q.Test) (C.Amount) (C.Tariff.own) (state self.old) (Changed (Strike priority) result) (state self.new) }
+        ensures { Follows Q.Test C.Tariff self.old (Changed (Strike priority) result) self.new }
     {
         self.change(Change::Strike(priority))
     }
 
     pub fn enter_section(&mut self, section: Section) -> Result<(), RosterRefusal>
-        ensures happens { Happens (Q.Test) (C.Amount) (C.Tariff.own) (state self.old) (Changed (EnterSection section) result) (state self.new) }
-        ensures leads { Leads (Q.Test) (C.Amount) (C.Tariff.own) (state self.old) (Changed (EnterSection section) result) (state self.new) }
+        ensures { Follows Q.Test C.Tariff self.old (Changed (EnterSection section) result) self.new }
     {
         self.change(Change::EnterSection(section))
     }
 
     pub fn strike_section(&mut self, owner: u32, resource: u32) -> Result<(), RosterRefusal>
-        ensures happens { Happens (Q.Test) (C.Amount) (C.Tariff.own) (state self.old) (Changed (StrikeSection owner resource) result) (state self.new) }
-        ensures leads { Leads (Q.Test) (C.Amount) (C.Tariff.own) (state self.old) (Changed (StrikeSection owner resource) result) (state self.new) }
+        ensures { Follows Q.Test C.Tariff self.old (Changed (StrikeSection owner resource) result) self.new }
     {
         self.change(Change::StrikeSection(owner, resource))
     }
 
     // An accepted change starts the search again.
     pub fn change(&mut self, change: Change) -> Result<(), RosterRefusal>
-        ensures happens { Happens (Q.Test) (C.Amount) (C.Tariff.own) (state self.old) (Changed change result) (state self.new) }
-        ensures leads { Leads (Q.Test) (C.Amount) (C.Tariff.own) (state self.old) (Changed change result) (state self.new) }
+        ensures { Follows Q.Test C.Tariff self.old (Changed change result) self.new }
     {
-        self.restart_with(change)
+        apply(&mut self.roster, change)?;
+        self.sets = first_set(&self.roster);
+        self.shown = None;
+        Ok(())
     }
 
     // Goes on with the search, by at most so many strides as allowed.
     pub fn plan(&mut self, allowance: u32) -> Result<Progress, SearchRefusal>
-        ensures happens { Happens (Q.Test) (C.Amount) (C.Tariff.own) (state self.old) (Planned allowance result) (state self.new) }
-        ensures leads { Leads (Q.Test) (C.Amount) (C.Tariff.own) (state self.old) (Planned allowance result) (state self.new) }
+        ensures { Follows Q.Test C.Tariff self.old (Planned allowance result) self.new }
     {
         judge_allowance(allowance)?;
         let strides = self.walk(allowance);
@@ -108,8 +104,7 @@ impl<Q: Test, C: Tariff> Planner<Q, C> {
     // Carries out a call as the program has it at hand.
     pub fn carry_out(&mut self, call: Call) -> Event
         ensures call { call_of result ≡ call }
-        ensures happens { Happens (Q.Test) (C.Amount) (C.Tariff.own) (state self.old) result (state self.new) }
-        ensures leads { Leads (Q.Test) (C.Amount) (C.Tariff.own) (state self.old) result (state self.new) }
+        ensures follows { Follows Q.Test C.Tariff self.old result self.new }
     {
         match call {
             Call::Change(change) => Event::Changed(change, self.change(change)),
@@ -119,8 +114,8 @@ impl<Q: Test, C: Tariff> Planner<Q, C> {
 
     // Writes the steps of the shown set into a list, one for each task.
     pub fn show(&self, list: &mut [u8]) -> Result<(), SearchRefusal>
-        ensures outcome { Outcome search_number (ShowRule (state self.now) list.old) list.old (written (state self.now).stands (state self.now).search.shown list.old) list.new result }
-        ensures claim { (opening : System) (test : Q) (events : List Happening) → Led (Q.Test) (C.Amount) (C.Tariff.own) opening test events (state self.now) → Seen (Q.Test) (C.Amount) (C.Tariff.own) opening test events list.new result }
+        ensures outcome { Outcome search_number (ShowRule self.now list.old) list.old (written self.now.stands self.now.search.shown list.old) list.new result }
+        ensures claim { (opening : System) (test : Q) (events : List Happening) → Led Q.Test C.Tariff opening test events self.now → Seen Q.Test C.Tariff opening test events list.new result }
     {
         let tasks = self.roster.tasks().len();
         if list.len() < tasks {
@@ -129,7 +124,7 @@ impl<Q: Test, C: Tariff> Planner<Q, C> {
         let Some(shown) = &self.shown else {
             return Err(SearchRefusal::NothingShown);
         };
-        list[0..tasks].copy_from_slice(shown.steps());
+        list[..tasks].copy_from_slice(shown.steps());
         Ok(())
     }
 }
@@ -137,9 +132,9 @@ impl<Q: Test, C: Tariff> Planner<Q, C> {
 impl<Q: Test + Drop, C: Tariff> Planner<Q, C> {
     // Uses the planner up.
     pub fn close(self) -> Findings<C>
-        ensures told { told_by result ≡ told (state self) }
-        ensures steps { Named (state self).stands result }
-        ensures claim { (opening : System) (test : Q) (events : List Happening) → Led (Q.Test) (C.Amount) (C.Tariff.own) opening test events (state self) → Claim (Q.Test) (C.Amount) (C.Tariff.own) opening test events (told_by result) }
+        ensures told { told_by result ≡ told self }
+        ensures steps { Named self.stands result }
+        ensures claim { (opening : System) (test : Q) (events : List Happening) → Led Q.Test C.Tariff opening test events self → Claim Q.Test C.Tariff opening test events (told_by result) }
     {
         self.findings()
     }

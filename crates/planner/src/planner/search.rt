@@ -1,14 +1,13 @@
 // The search: one text for every test and every tariff.
 ghost use Rattle.std.specs.Prelude.{◌≡◌, ℕ, ◌+◌, ◌<◌, ◌≤◌, ◌⊎◌, length, Some, Decides};
-ghost use Rattle.std.specs.Result as results;
 ghost use Rattle.model.specs.Of.{of};
 ghost use Rattle.model.specs.Refusals.{roster_number, Outcome};
-ghost use Rattle.timing.specs.Times.{front};
+ghost use Rattle.model.specs.System.{Keeps};
 ghost use Rattle.planner.specs.Changes.{ChangeRule, left_by};
 ghost use Rattle.planner.specs.Claim.{Named, told, told_by};
-ghost use Rattle.planner.specs.Search.{cheaper as cheaper_of, looked_at, start, mark_of};
+ghost use Rattle.planner.specs.Search.{cheaper as cheaper_of, looked_at};
 ghost use Rattle.planner.specs.Shown.{found, found_in};
-ghost use Rattle.planner.specs.State.{State, state, problem, Passes, set_of, sets_of, Walked};
+ghost use Rattle.planner.specs.State.{State, sets_of, sought, Walked};
 
 use super::Planner;
 use crate::events::{Change, Progress};
@@ -27,10 +26,12 @@ pub(super) fn first_set(roster: &Roster) -> Odometer
     ensures places { result.places ≡ length (of roster.now).tasks }
     ensures number { result.number ≡ 0 }
 {
+    // A table has at most eight steps, so the cast loses nothing: try_from would add an arm that never runs.
     Odometer::new(roster.steps().len() as u8, roster.tasks().len())
 }
 
-fn apply(roster: &mut Roster, change: Change) -> Result<(), RosterRefusal>
+// A change stays an enum that one match carries out: it is kept on record, and the claim names it.
+pub(super) fn apply(roster: &mut Roster, change: Change) -> Result<(), RosterRefusal>
     ensures { Outcome roster_number (ChangeRule (of roster.old) change) (of roster.old) (left_by (of roster.old) change) (of roster.new) result }
 {
     match change {
@@ -54,37 +55,18 @@ fn cheaper<C: Tariff>(shown: Option<Shown<C>>, new: Shown<C>) -> Shown<C>
 }
 
 impl<Q: Test, C: Tariff> Planner<Q, C> {
-    // Makes a change; where it is accepted, the search starts again.
-    pub(super) fn restart_with(&mut self, change: Change) -> Result<(), RosterRefusal>
-        ensures stands { Outcome roster_number (ChangeRule (state self.old).stands change) (state self.old).stands (left_by (state self.old).stands change) (state self.new).stands result }
-        ensures test { (state self.new).test ≡ (state self.old).test }
-        ensures search { results.MatchResult result (λ _. (state self.new).search ≡ start) (λ _. (state self.new).search ≡ (state self.old).search) }
-    {
-        apply(&mut self.roster, change)?;
-        self.sets = first_set(&self.roster);
-        self.shown = None;
-        Ok(())
-    }
-
-    // Whether the set that a list stands for passes.
-    fn passes(&self, list: &[u8]) -> bool
-        ensures { Decides result (Passes (Q.Test) (state self.now).stands (state self.now).test (front (state self.now).stands list.now)) }
-    {
-        self.test.ask(&self.roster, list)
-    }
-
     // Whether the set that is next passes.
     fn next_passes(&self) -> bool
-        ensures { Decides result (Passes (Q.Test) (state self.now).stands (state self.now).test (set_of (state self.now).stands (state self.now).search.settled)) }
+        ensures { Decides result ((sought Q.Test C.Tariff self.now).Passes self.now.search.settled) }
     {
-        self.passes(self.sets.digits())
+        self.test.ask(&self.roster, self.sets.digits())
     }
 
     // The set that is next, with its charge.
     fn next_set(&self) -> Shown<C>
-        ensures found { found result ≡ looked_at (problem (Q.Test) (C.Amount) (C.Tariff.own) (state self.now).stands (state self.now).test) (state self.now).search.settled }
-        ensures base { result.at.base ≡ self.now.sets.base }
-        ensures places { result.at.places ≡ self.now.sets.places }
+        ensures found { found result ≡ looked_at (sought Q.Test C.Tariff self.now) self.now.search.settled }
+        ensures base { result.at.base ≡ length self.now.stands.steps }
+        ensures places { result.at.places ≡ length self.now.stands.tasks }
     {
         Shown {
             at: self.sets,
@@ -94,8 +76,8 @@ impl<Q: Test, C: Tariff> Planner<Q, C> {
 
     // Looks at one set, and goes on to the next that is not settled by it: whatever walk led here is one stride longer.
     fn stride(&mut self)
-        requires { self.old.sets.number < sets_of (state self.old).stands }
-        ensures { (x : State Q C) (n : ℕ) → Walked (Q.Test) (C.Amount) (C.Tariff.own) x n (state self.old) → Walked (Q.Test) (C.Amount) (C.Tariff.own) x (n + 1) (state self.new) }
+        requires { self.old.search.settled < sets_of self.old.stands }
+        ensures { (x : State Q C) (n : ℕ) → Walked Q.Test C.Tariff x n self.old → Walked Q.Test C.Tariff x (n + 1) self.new }
     {
         if self.next_passes() {
             self.shown = Some(cheaper(self.shown, self.next_set()));
@@ -105,31 +87,33 @@ impl<Q: Test, C: Tariff> Planner<Q, C> {
         }
     }
 
-    // Whether another stride is allowed, and a set is left to look at.
-    fn goes_on(&self, strides: u32, allowance: u32) -> bool
-        ensures { Decides result ((strides < allowance) × ((state self.now).search.settled < sets_of (state self.now).stands)) }
+    // Whether a set is left to look at.
+    fn is_open(&self) -> bool
+        ensures left { Decides result (self.now.search.settled < sets_of self.now.stands) }
+        ensures within { self.now.search.settled ≤ sets_of self.now.stands }
     {
-        strides < allowance && self.sets.number() < self.sets.total()
+        self.sets.number() < self.sets.total()
     }
 
     // Strides until all sets are settled, at most so many times; gives how many it made.
     pub(super) fn walk(&mut self, allowance: u32) -> u32
-        ensures walked { Walked (Q.Test) (C.Amount) (C.Tariff.own) (state self.old) result (state self.new) }
+        ensures walked { Walked Q.Test C.Tariff self.old result self.new }
         ensures few { result ≤ allowance }
-        ensures whole { result < allowance → (state self.new).search.settled ≡ sets_of (state self.new).stands }
+        ensures whole { result < allowance → self.new.search.settled ≡ sets_of self.new.stands }
     {
-        let mut strides = 0;
-        while self.goes_on(strides, allowance) {
+        for strides in 0..allowance {
+            if !self.is_open() {
+                return strides;
+            }
             self.stride();
-            strides += 1;
         }
-        strides
+        allowance
     }
 
     fn mark(&self) -> Mark
-        ensures { result ≡ mark_of (sets_of (state self.now).stands) (state self.now).search }
+        ensures { result ≡ (told self.now).mark }
     {
-        if self.sets.number() < self.sets.total() {
+        if self.is_open() {
             Mark::Open
         } else if self.shown.is_some() {
             Mark::Best
@@ -139,9 +123,10 @@ impl<Q: Test, C: Tariff> Planner<Q, C> {
     }
 
     pub(super) fn progress(&self, strides: u32) -> Progress
-        ensures mark { result.mark ≡ mark_of (sets_of (state self.now).stands) (state self.now).search }
-        ensures settled { result.settled ≡ (state self.now).search.settled }
+        ensures mark { result.mark ≡ (told self.now).mark }
+        ensures settled { result.settled ≡ (told self.now).settled }
         ensures strides { result.strides ≡ strides }
+        ensures keeps { Keeps self.now.stands }
     {
         Progress {
             mark: self.mark(),
@@ -151,8 +136,8 @@ impl<Q: Test, C: Tariff> Planner<Q, C> {
     }
 
     pub(crate) fn findings(&self) -> Findings<C>
-        ensures told { told_by result ≡ told (state self.now) }
-        ensures steps { Named (state self.now).stands result }
+        ensures told { told_by result ≡ told self.now }
+        ensures steps { Named self.now.stands result }
     {
         Findings {
             mark: self.mark(),

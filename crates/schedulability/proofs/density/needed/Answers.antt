@@ -1,44 +1,37 @@
-use Rattle.std.proofs.Common.{length, sum_by, ap, ◌∙◌, arith, length-take}
+use Rattle.std.proofs.Common.{rules, tests, ap, ◌∙◌, ◌^◌, subst, sym, sum_by}
+use Rattle.std.proofs.iter.Yields.{fronts}
+use Rattle.std.proofs.lemmas.Iterator.{YieldsList, YieldsList-from_slice, YieldsList-from_zip, YieldsList-from_map, zips}
+use Rattle.std.proofs.lemmas.Iterator.Consumers.{sum_by_from_yields_List, fits_by_from_yields_list}
+use Rattle.std.proofs.lemmas.Iterator.Adapters.{serves_from_places}
 use Rattle.std.specs.List.{zip}
-use Rattle.std.proofs.lemmas.List.{take_all}
-use Rattle.std.proofs.lemmas.Slice.Zip.{length-zip}
 use Rattle.model.specs.Of.{of}
 use Rattle.model.proofs.Kept.{kept}
-use Rattle.timing.specs.Times.{front}
+use Rattle.timing.proofs.Fronts.{zip_front}
 use Rattle.schedulability.specs.Density.{part}
-use Rattle.schedulability.specs.Parts.{part_next, part_small, step_in, task_bounded}
+use Rattle.schedulability.specs.Parts.{Fits, density_fits, pairs_fit}
 use Rattle.schedulability.proofs.density.needed.Goals as goal
+use Rattle.schedulability.proofs.density.needed.Goals.{After-map}
 
-pub bounds-set-i : goal.bounds-set-i
-bounds-set-i c =
-    omega (arith, ap length c.tasks-task-items.ensures, c.loop-i-test.true, c.requires.whole, length-take (length (of c.args.roster.now).tasks) c.args.set.now)
+-- each task, with the step that the list names for it
+pairs : (c : After-map) → YieldsList (zips fronts fronts) (λ p. (p.0.now, p.1.now)) c.map.result.iter (zip (of c.args.roster.now).tasks c.args.set.now)
+pairs c = YieldsList-from_zip (YieldsList-from_slice (of c.args.roster.now).tasks cc) (YieldsList-from_slice c.args.set.now cc)
 
-pub part-sum-requires : goal.part-sum-requires
-part-sum-requires c =
-    let r = c.args.roster.now in
-    let items = c.tasks-task-items.ensures in
-    record {
-      bounded = task_bounded (of r) c.args.set.now (kept r) c.requires _ items c.loop-i.i c.loop-i-test.true;
-      named = step_in (of r) c.args.set.now (kept r) c.requires _ items c.loop-i.i c.loop-i-test.true;
-    }
+pub sum-requires-clause-can : goal.sum-requires-clause-can
+sum-requires-clause-can c =
+    let s = of c.args.roster.now in
+    let all = pairs_fit s c.args.set.now (kept c.args.roster.now) c.requires in
+    ((tt, tt), serves_from_places (pairs c) (λ x q h. search rules) (λ x k low at. let fits = subst (Fits s) (sym at) (all k (x.0.now, x.1.now) low) in search rules))
 
-pub overflow_add-sum : goal.overflow_add-sum
-overflow_add-sum c =
-    let r = c.args.roster.now in
-    let small = part_small (of r) c.args.set.now (kept r) c.requires _ c.tasks-task-items.ensures c.loop-i.i c.loop-i-test.true in
-    omega (arith, c.part-sum.ensures, small, c.loop-i.invariant.1, c.loop-i-test.true, ap length c.tasks-task-items.ensures, (kept r).few_tasks)
-
-pub loop-i-preserved : goal.loop-i-preserved
-loop-i-preserved c =
-    let r = c.args.roster.now in
-    let items = c.tasks-task-items.ensures in
-    let small = part_small (of r) c.args.set.now (kept r) c.requires _ items c.loop-i.i c.loop-i-test.true in
-    let next = part_next (of r) c.args.set.now (kept r) c.requires _ items c.loop-i.i c.loop-i-test.true in
-    (omega (arith, next, c.loop-i.invariant.0, c.part-sum.ensures), omega (arith, small, c.loop-i.invariant.1, c.part-sum.ensures))
+pub sum-requires-clause-fits : goal.sum-requires-clause-fits
+sum-requires-clause-fits c =
+    let s = of c.args.roster.now in
+    fits_by_from_yields_list (part s) (zip s.tasks c.args.set.now) c.map.result (2 ^ 64)
+    (YieldsList-from_map _ (part s) (pairs c) c.map.ensures.closure (λ x r q k. search (rules, tests)))
+    (density_fits s c.args.set.now (kept c.args.roster.now) c.requires)
 
 pub returns : goal.returns
 returns c =
     let s = of c.args.roster.now in
-    let pairs = zip s.tasks (front s c.args.set.now) in
-    let whole_list = take_all c.loop-i.i pairs (omega (arith, length-zip s.tasks (front s c.args.set.now), c.loop-i-test.false, ap length c.tasks-task-items.ensures)) in
-    c.loop-i.invariant.0 ∙ ap (sum_by (part s)) whole_list
+    sum_by_from_yields_List (part s) (zip s.tasks c.args.set.now) c.map.result c.sum.result c.sum.ensures.ran
+    (YieldsList-from_map _ (part s) (pairs (goal.at.returns c).After-map) c.map.ensures.closure (λ x r q k. search (rules, tests)))
+    ∙ ap (sum_by (part s)) (sym (zip_front s.tasks c.args.set.now))

@@ -1,15 +1,12 @@
-use Rattle.std.proofs.Common.{◌≡◌, unwrap_or, ap, ◌∙◌, arith}
-use Rattle.std.proofs.lemmas.Bool.{cond-true, lt-ltb}
+use Rattle.std.proofs.Common.{arith, sym, ◌∙◌}
+use Rattle.std.proofs.lemmas.Option.{cond_some}
 use Rattle.model.specs.Of.{of}
 use Rattle.model.proofs.Kept.{kept}
-use Rattle.timing.specs.Times.{clock, time}
 use Rattle.schedulability.specs.Parts.{cost_fits}
 use Rattle.schedulability.proofs.density.part.Goals as goal
 
 pub overflow_mul-scaled : goal.overflow_mul-scaled
 overflow_mul-scaled c =
     let r = c.args.roster.now in
-    let t = c.args.task.now in
-    let took : c.unwrap_or-time.result ≡ time t.cycles (clock (of r) c.args.step) =
-    c.unwrap_or-time.ensures ∙ ap (λ o. unwrap_or o 0) (c.time_of.ensures ∙ cond-true _ _ _ (lt-ltb _ _ c.requires.named)) in
-    omega (arith, took, c.switch_time.ensures, cost_fits (of r) t c.args.step (kept r) c.requires.bounded c.requires.named)
+    let took = cond_some _ _ _ (sym c.time_of.ensures ∙ c.unwrap-time.ensures) in
+    omega (arith, took.1, c.from.ensures, c.switch_time.ensures, cost_fits (of r) c.args.task.now c.args.step (kept r) c.requires.bounded c.requires.named)

@@ -1,9 +1,10 @@
-use Rattle.std.proofs.Common.{◌≡◌}
-use Rattle.std.proofs.lemmas.List.Filters.{FiltersInPlace}
+use Rattle.std.proofs.Common.{◌≡◌, ◌≤◌, Bool, length, take, filter}
+use Rattle.std.specs.Fn.{FnReturnsAt}
+use Rattle.model.specs.Held.{held}
 use Rattle.model.proofs.table.Table.retain.Given as goal
 
--- the chosen items among the first i stand in front, and from i on the array is as it was
-abbrev pub invariant-loop-i : goal.invariant-loop-i
-invariant-loop-i g l =
-    (l.self.len ≡ l.initial.self.len)
-    × FiltersInPlace (g.C.Choice.chosen l.choice) l.initial.self.items l.self.items l.kept l.i
+-- those of the items so far that pass
+abbrev pub invariant-loop-item : goal.invariant-loop-item
+invariant-loop-item g l =
+    (length (held l.kept) ≤ l.item-index)
+    × ((test : g.row.T.Denot → Bool) → ((x : g.row.T.Denot) (b : Bool) → FnReturnsAt g.F.Fn l.keep x b → b ≡ test x) → held l.kept ≡ filter test (take l.item-index l.item-items))

@@ -1,62 +1,42 @@
-use Rattle.std.proofs.Common.{◌≡◌, ℕ, ◌+◌, ◌-◌, ◌*◌, ◌/◌, ◌^◌, ◌<◌, ◌≤◌, min, ◌++◌, length, get_or, take, drop, refl, ap, ◌∙◌, arith, length-append, length-drop, rules}
-use native.Mathlib.Nat.{one-le-pow}
-use Rattle.odometer.specs.declared.wheels.Odometer.{Odometer}
-use Rattle.odometer.specs.Digits.{digits, next_multiple, total}
-use Rattle.odometer.proofs.Numbers.{multiple_above, power_small}
-use Rattle.odometer.proofs.Reading.{shown_on}
+use Rattle.std.proofs.Common.{◌≡◌, length, take, ap, ◌∙◌, arith}
+use Rattle.odometer.specs.Digits.{next_multiple, total}
+use Rattle.odometer.specs.Wheels.{counter}
+use Rattle.odometer.proofs.Numbers.{length_digits, multiple_above}
+use Rattle.odometer.proofs.Reading.{places_show, wheels_on}
 use Rattle.odometer.proofs.Skips.{next_capped, next_within}
 use Rattle.odometer.proofs.wheels.Odometer.advance.Goals as goal
+use Rattle.odometer.proofs.wheels.Odometer.advance.Goals.{After-total}
 
--- the power of the cleared wheels, and the number that they lead to
-module _ (o : Odometer) (k cleared : ℕ) (is : cleared ≡ min k o.places) where
-  power_is : get_or o.powers cleared 0 ≡ o.base ^ cleared
-  power_is = o.known cleared (omega arith)
+-- what the call of `total` gives, in the odometer's own fields
+all : (c : After-total) → c.total.result ≡ total c.self.inside.base c.self.inside.places
+all c = rw (← c.self.view_is) at c.total.ensures.total
 
-  module _ (low : o.number < get_or o.powers o.places 0) where
-    small : o.number < total o.base o.places
-    small = rw (o.known o.places o.few) at low
-
-    next_fits : next_multiple o.base cleared o.number ≤ total o.base o.places
-    next_fits = next_within o.base cleared o.places o.number o.some small (omega arith)
-
-    next_is : next_multiple o.base cleared o.number ≡ min (next_multiple o.base k o.number) (total o.base o.places)
-    next_is = ap (λ z. next_multiple o.base z o.number) is ∙ next_capped o.base k o.places o.number o.some small
-
-pub returns-then-self-places : goal.returns-then-self-places
-returns-then-self-places c =
-    let o = c.args.self.now in
-    let end = o.known o.places o.few in
-    let next = multiple_above o.base c.args.k o.number o.some in
-    record { base = refl; places = refl; number = omega arith }
-
-pub nonzero_div-self : goal.nonzero_div-self
-nonzero_div-self c =
-    let o = c.args.self.now in
-    rw (power_is o c.args.k c.min-cleared.result c.min-cleared.ensures) (one-le-pow c.min-cleared.result o.base o.some)
-
-pub overflow_mul-self : goal.overflow_mul-self
-overflow_mul-self c =
-    let o = c.args.self.now in
-    let fits = next_fits o c.args.k c.min-cleared.result c.min-cleared.ensures c.if-self-places.false in
-    let end = power_small o.base o.places o.eight o.few in
-    simp (power_is o c.args.k c.min-cleared.result c.min-cleared.ensures) (omega (arith, fits, end))
+pub returns-then-self-total-clause-number : goal.returns-then-self-total-clause-number
+returns-then-self-total-clause-number c =
+    let o = counter c.self.inside in
+    rw (← c.self.view_is) (omega (arith, all (goal.at.returns-then-self-total-clause-number c).After-total, multiple_above o.base c.args.k o.number c.self.invariant.range.some))
 
 pub invariant_of-self : goal.invariant_of-self
 invariant_of-self c =
-    let o = c.args.self.now in
-    let ahead = c.forward.new.wheels in
-    let rest = drop (o.places - 0) o.wheels in
-    let power = power_is o c.args.k c.min-cleared.result c.min-cleared.ensures in
-    let p = get_or o.powers c.min-cleared.result 0 in
-    let fits : (o.number / p + 1) * p ≤ total o.base o.places =
-    rw power (next_fits o c.args.k c.min-cleared.result c.min-cleared.ensures c.if-self-places.false) in
-    let shown : take o.places (ahead ++ rest) ≡ digits o.base o.places ((o.number / p + 1) * p) =
-    rw power (shown_on o c.min-cleared.result (o.places - 0) ahead rest (omega arith) c.forward.ensures) in
-    let long : length (ahead ++ rest) ≡ 16 = simp (length-append, length-drop) (omega (arith, c.forward.auto.wheels)) in
-    search rules
+    let o = c.self.inside in
+    let range = c.self.invariant.range in
+    let next : c.next_multiple-self-inside.result ≡ next_multiple o.base c.min-cleared.result o.number = rw (← c.self.view_is) at c.next_multiple-self-inside.ensures in
+    let shown = places_show o c.self.invariant in
+    let long : length (take o.places o.wheels) ≡ o.places = rw shown (length_digits o.base o.places o.number) in
+    let ahead = rw long at (c.forward.ensures o.number (rw long shown)) in
+    rw next (record {
+      range = record {
+        some = range.some;
+        eight = range.eight;
+        few = range.few;
+        within = next_within o.base c.min-cleared.result o.places o.number range.some (omega (arith, all (goal.at.invariant_of-self c).After-total)) (omega arith);
+      };
+      shown = wheels_on o c.self.invariant c.forward.new.wheels _ ahead;
+    })
 
-pub returns : goal.returns
-returns c =
-    let o = c.args.self.now in
-    let power = power_is o c.args.k c.min-cleared.result c.min-cleared.ensures in
-    record { base = refl; places = refl; number = simp (power) (next_is o c.args.k c.min-cleared.result c.min-cleared.ensures c.if-self-places.false) }
+pub returns-clause-number : goal.returns-clause-number
+returns-clause-number c =
+    let o = c.self.inside in
+    rw (← c.self.view_is) (rw (← c.self.view_is) at c.next_multiple-self-inside.ensures
+    ∙ ap (λ z. next_multiple o.base z o.number) c.min-cleared.ensures
+    ∙ next_capped o.base c.args.k o.places o.number c.self.invariant.range.some (omega (arith, all (goal.at.returns-clause-number c).After-total)))

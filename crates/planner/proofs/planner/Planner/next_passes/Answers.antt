@@ -1,11 +1,12 @@
 use Rattle.std.proofs.Common.{Decides, subst}
-use Rattle.planner.specs.State.{state, Passes}
+use Rattle.model.specs.Of.{of}
+use Rattle.planner.specs.State.{Passes}
 use Rattle.planner.proofs.Striding.{set_at, front_set}
 use Rattle.planner.proofs.planner.Planner.next_passes.Goals as goal
 
 pub returns : goal.returns
 returns g c =
-    let p = c.args.self.now in
-    let x = state p in
-    let set = set_at x.stands p.sets.base p.sets.places p.sets.number c.digits.result.now c.digits.ensures p.base p.places in
-    subst (λ z. Decides c.passes.result (Passes g.Q.Test x.stands x.test z)) (front_set x.stands p.sets.number _ set) c.passes.ensures
+    let p = c.self.inside in
+    let s = of p.roster in
+    let set = set_at s p.sets.base p.sets.places p.sets.number c.digits.result.now c.digits.ensures c.self.invariant.base c.self.invariant.places in
+    rw (← c.self.view_is) (subst (λ z. Decides c.ask.result (Passes g.Q.Test s p.test.below z)) (front_set s p.sets.number _ set) c.ask.ensures)

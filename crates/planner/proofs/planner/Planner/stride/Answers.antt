@@ -1,24 +1,33 @@
-use Rattle.std.proofs.Common.{refl, ap, ◌∙◌}
+use Rattle.std.proofs.Common.{refl, ◌∙◌}
 use Rattle.std.proofs.lemmas.Bool.{false≢true}
 use Rattle.model.proofs.Kept.{kept}
-use Rattle.planner.specs.Search.{cheaper}
-use Rattle.planner.specs.Shown.{found_in}
-use Rattle.planner.specs.State.{state, problem}
+use Rattle.planner.specs.Parts.{state}
 use Rattle.planner.proofs.Striding.{stride_passes, stride_fails, walked_on}
 use Rattle.planner.proofs.planner.Planner.stride.Goals as goal
 
+pub invariant_of-self-else-next_passes : goal.invariant_of-self-else-next_passes
+invariant_of-self-else-next_passes g c = record {
+  base = c.skip.ensures.base ∙ c.self.invariant.base;
+  places = c.skip.ensures.places ∙ c.self.invariant.places;
+  shown_base = c.self.invariant.shown_base;
+  shown_places = c.self.invariant.shown_places;
+}
+
 pub returns-then-next_passes : goal.returns-then-next_passes
-returns-then-next_passes g c from n far =
-    let p = c.args.self.now in
-    let x = state p in
-    let sought = problem g.Q.Test g.C.Amount g.C.Tariff x.stands x.test in
-    walked_on g.Q.Test g.C.Amount g.C.Tariff from x _ n far c.requires refl refl
-    (stride_passes sought x.search _ _ c.requires (c.if-next_passes.ensures.0 refl) p.base p.places c.advance.ensures.number (c.cheaper.ensures.found ∙ ap (cheaper g.C.Amount.leq (found_in p.shown)) c.next_set.ensures.found))
+returns-then-next_passes g c =
+    let x = state c.self.inside in
+    let left = rw (← c.self.view_is) at c.requires in
+    let passes = rw (← c.self.view_is) at (c.if-next_passes.ensures.0 refl) in
+    let next = rw (← c.self.view_is) at c.next_set.ensures.found in
+    rw (← c.self.view_is)
+    (λ from n far. walked_on from x _ n far left refl refl
+    (stride_passes x.search _ _ _ left passes c.self.invariant.base c.self.invariant.places c.advance.ensures.number next c.cheaper.ensures.found))
 
 pub returns-else-next_passes : goal.returns-else-next_passes
-returns-else-next_passes g c from n far =
-    let p = c.args.self.now in
-    let x = state p in
-    let sought = problem g.Q.Test g.C.Amount g.C.Tariff x.stands x.test in
-    walked_on g.Q.Test g.C.Amount g.C.Tariff from x _ n far c.requires refl refl
-    (stride_fails sought x.search _ (kept p.roster).some_step c.requires (λ passes. false≢true (c.if-next_passes.ensures.1 passes)) p.base p.places c.skip.ensures.number)
+returns-else-next_passes g c =
+    let x = state c.self.inside in
+    let left = rw (← c.self.view_is) at c.requires in
+    let fails = rw (← c.self.view_is) at c.if-next_passes.ensures.1 in
+    rw (← c.self.view_is)
+    (λ from n far. walked_on from x _ n far left refl refl
+    (stride_fails x.search _ (kept c.self.inside.roster).some_step left (λ pass. false≢true (fails pass)) c.self.invariant.base c.self.invariant.places c.skip.ensures.number))
