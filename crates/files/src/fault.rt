@@ -25,6 +25,7 @@ impl Refusal for FileRefusal {
     ghost number_of = { file_number };
 
     fn number(self) -> u8 {
+        // std has no `From` of an enum for its number
         self as u8
     }
 }
@@ -64,7 +65,8 @@ pub struct Fault {
     pub place: Place,
 }
 
-// All three by hand: what a derive writes has no contract, and clauses name the cause that comes of a refusal.
+// All three by hand: a derive was tried, and what it writes has no contract, so that the clauses which name the cause that
+// comes of a refusal stay open.
 impl From<StepsRefusal> for Cause {
     ghost from_gives = { λ refusal cause. cause ≡ causes.Steps refusal };
 

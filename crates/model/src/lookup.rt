@@ -15,7 +15,7 @@ pub(crate) fn rank(tasks: &[Task], priority: u32) -> usize
 }
 
 // The place of a priority; nothing behind the first number that is not smaller is read.
-// No binary search: the promise covers a list in any order.
+// No binary search: it would ask for a list in order, and the promise covers any.
 pub fn find(tasks: &[Task], priority: u32) -> Option<usize>
     ensures { Finds tasks.now priority result }
 {

@@ -9,7 +9,8 @@ pub mod calls;
 mod growth;
 mod judges;
 
-// Contracts say `of self.now`, with no `impl Model`: a Copy type's view has to give back every field, and `of` forgets a table's unused places.
+// Contracts say `of self.now`. An `impl Model` was tried: Copy is refused without an `inverse`, and `of` forgets the unused
+// places of a table, so that none can give every field back.
 #[derive(Clone, Copy)]
 pub struct Roster {
     steps: Table<Step, MAX_STEPS>,

@@ -14,7 +14,7 @@ pub(crate) struct Table<T: Copy, const N: usize> {
     ghost within: { len ≤ N },
 }
 
-// By hand: Clone is not derived over the ghost fields of a generic struct.
+// By hand: the derive of Clone was tried, and is refused over the ghost fields of a generic struct.
 impl<T: Copy, const N: usize> Clone for Table<T, N> {
     ghost is_clone = { λ x y. y ≡ x };
 

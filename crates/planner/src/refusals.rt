@@ -19,6 +19,7 @@ impl Refusal for SearchRefusal {
     ghost number_of = { search_number };
 
     fn number(self) -> u8 {
+        // std has no `From` of an enum for its number
         self as u8
     }
 }

@@ -4,7 +4,7 @@ ghost use Rattle.std.proofs.Common.{rules};
 use crate::test::Test;
 use model::roster::Roster;
 
-// Says yes when both tests do.
+// Says yes when both tests do. Not the pair of tariffs: tests and tariffs know nothing of each other.
 #[derive(Clone, Copy, PartialEq, Eq, Debug, Default)]
 pub struct Pair<A, B> {
     pub first: A,

@@ -7,7 +7,8 @@ ghost use Rattle.timing.specs.Times.{front};
 
 use model::roster::Roster;
 
-// Anything that answers by the two rules of `TestLaws`. A closure could not carry these, so it is a trait.
+// Anything that answers by the two rules of `TestLaws`. A rule of the project: a trait, since a closure could not carry
+// these, with one question on a roster and a list.
 pub trait Test {
     // the sets that pass
     ghost passes: { Self → System → List ℕ → Type 0 };

@@ -27,7 +27,7 @@ impl<A: Amount, B: Amount> Amount for Paired<A, B> {
 
     ghost lawful = { lexical A.Amount.lawful B.Amount.lawful };
 
-    // Not by the derived default: an amount has a zero, and need not be `Default`.
+    // The derived default is no plainer: it would ask `Default` of every amount, which has a zero already.
     fn zero() -> Paired<A, B> {
         Paired {
             first: A::zero(),
@@ -42,7 +42,7 @@ impl<A: Amount, B: Amount> Amount for Paired<A, B> {
         }
     }
 
-    // Not by the derived `<=`: it asks an order of all values of A and B, and amounts owe one up to the count of prices.
+    // The derived `<=` is no plainer: it would ask an order of all values, and an amount owes one up to a count of prices.
     fn at_most(&self, other: &Paired<A, B>) -> bool {
         self.first.at_most(&other.first)
             && (!other.first.at_most(&self.first) || self.second.at_most(&other.second))

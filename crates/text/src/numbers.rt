@@ -16,7 +16,7 @@ fn read(digits: &[u8]) -> Option<u32>
     requires { length digits.now ≤ 9 }
     ensures { MatchOption result (AllDigits 10 digits.now → ⊥) (λ n. AllDigits 10 digits.now × (n ≡ digits_value 10 digits.now)) }
 {
-    // A `for` with `?`: in a `try_fold` the bound on what is read so far would be a premise of the closure.
+    // A `try_fold` was tried: the bound on what is read so far becomes a premise of its closure, which stayed open.
     let mut read = 0;
     for b in digits {
         read = read * 10 + char::from(*b).to_digit(10)?;

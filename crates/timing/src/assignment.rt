@@ -61,7 +61,7 @@ impl<'a> Assignment<'a> {
     {
         let switch = u64::from(self.roster.switch_time());
         let mut loads = ArrayVec::new();
-        // `push` has room, while `extend` answers a Result, as what it is given may be too long
+        // `extend` is no plainer: it answers a Result, as what it is given may be too long, and `push` is proved to have room
         for (task, step) in self.roster.tasks().iter().zip(self.set) {
             let time = time_at(self.roster, task.cycles, *step);
             loads.push(Load {
@@ -80,6 +80,7 @@ impl<'a> Assignment<'a> {
     {
         let ceilings = ceilings(self.roster.sections());
         let mut holds = ArrayVec::new();
+        // `push` has room here too; and std has no `From` for a u32 as usize
         for section in self.roster.sections() {
             let step = self.step_of(section.owner);
             holds.push(Hold {

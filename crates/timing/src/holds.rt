@@ -29,7 +29,7 @@ impl Hold {
     }
 }
 
-// The ceiling of each resource.
+// The ceiling of each resource. A `for` is the plainest: no method of the library takes the least at each index.
 pub(crate) fn ceilings(sections: &[Section]) -> [u32; RESOURCES]
     requires { AllByRecursion SectionBounded sections.now }
     ensures { (k : ℕ) → k < 8 → slice_index result k ≡ ceiling sections.now k }

@@ -20,7 +20,8 @@ pub fn windows(roster: &Roster, set: &[u8], out: &mut [u32]) -> Result<(), CallR
         return Err(CallRefusal::ShortList);
     }
     let analysis = Analysis::new(roster, set)?;
-    // A rule of the project: the caller lends the list, and a miss is written as 0. A window that is met fits 32 bits.
+    // A rule of the project: the caller lends the list, and a miss is written as 0.
+    // A window that is met fits 32 bits: `try_from` would add an arm that never runs.
     for (place, window) in out[..tasks].iter_mut().enumerate() {
         *window = analysis.window(place).unwrap_or(0) as u32;
     }

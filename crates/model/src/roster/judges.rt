@@ -58,10 +58,7 @@ impl Roster {
         ensures { Decides result (SectionRule (of self.now) section.now Overlong) }
     {
         let tasks = self.tasks.as_slice();
-        match find(tasks, section.owner) {
-            None => true,
-            Some(at) => rules::within(section, &tasks[at]),
-        }
+        find(tasks, section.owner).is_none_or(|at| rules::within(section, &tasks[at]))
     }
 
     pub(crate) fn judge_entry(&self, task: &Task) -> Result<(), RosterRefusal>
