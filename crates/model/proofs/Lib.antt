@@ -1,3 +1,4 @@
+pub mod Capping
 pub mod Growing
 pub mod Keeping
 pub mod Kept

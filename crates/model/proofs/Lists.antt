@@ -14,6 +14,10 @@ pub all_both : {X : Type 0} (P Q S : X → Type 0) → ((x : X) → P x → Q x 
 all_both P Q S f [] p q = tt
 all_both P Q S f (x ∷ xs) p q = (f x p.0 q.0, all_both P Q S f xs p.1 q.1)
 
+pub map_same : {X Y : Type 0} (P : X → Type 0) (f g : X → Y) → ((x : X) → P x → f x ≡ g x) → (xs : List X) → AllByRecursion P xs → map f xs ≡ map g xs
+map_same P f g same [] h = refl
+map_same P f g same (x ∷ xs) h = rw (same x h.0, map_same P f g same xs h.1)
+
 module _ {X : Type 0} (keep : X → Bool) where
   pub all_kept_with : (P Q : X → Type 0) → ((x : X) → keep x ≡ true → P x → Q x) → (xs : List X) → AllByRecursion P xs → AllByRecursion Q (filter keep xs)
   all_kept_with P Q f [] h = tt

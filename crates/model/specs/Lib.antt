@@ -1,5 +1,6 @@
 pub mod Bounds
 pub mod Calls
+pub mod Capped
 pub mod Fitting
 pub mod Growth
 pub mod Held

@@ -3,11 +3,17 @@ use Rattle.std.proofs.Common.{◌≡◌, ℕ, zero, suc, ◌+◌, ◌*◌, ◌/�
 use native.Mathlib.Nat.{pow-zero, zero-div, zero-mod}
 use Rattle.std.specs.Int.Digits.{number_from_digits, number_from_digits_after}
 use Rattle.std.specs.List.{AllZip, AllByRecursion}
-use Rattle.std.proofs.lemmas.Nat.{div_below, div-mul-add, mod-mul-add}
+use Rattle.std.proofs.ByRecursion.{All-push}
+use Rattle.std.proofs.lemmas.Nat.{div_below, div-mul-add, mod_below, mod-mul-add}
 use Rattle.std.proofs.lemmas.Int.Digits.{number_push}
 use Rattle.std.proofs.lemmas.List.Elements.{AllZip-push}
 use Rattle.std.proofs.lemmas.List.{append_assoc, append-nil}
 use Rattle.odometer.specs.Digits.{digits}
+
+-- The digits of a number lie below the base.
+pub digits_under : (g t n : ℕ) → 1 ≤ g → AllByRecursion (λ d. d < g) (digits g t n)
+digits_under g zero n pos = tt
+digits_under g (suc t) n pos = All-push (λ d. d < g) (digits g t (n / g)) (n % g) (digits_under g t (n / g) pos) (mod_below n g pos)
 
 -- Digits read on after n stand after the digits of n.
 digits_after : (g k m n : ℕ) (ds : List ℕ) → m ≡ k + length ds → AllByRecursion (λ d. d < g) ds → digits g m (number_from_digits_after g n ds) ≡ digits g k n ++ ds

@@ -69,6 +69,16 @@ zeros_counted g (suc t) n pos =
       | inr ne ↦ rw (ne_eqb (n % g) 0 ne) (zeros_none g t n ne)
     ])
 
+-- the last z + 1 digits are zeros where the last z are and the one before them is, and only there
+last_split : (g n z : ℕ) → 0 < g → n % g ^ (z + 1) ≡ (n / g ^ z % g) * g ^ z + n % g ^ z
+last_split g n z h = rw (add-one, pow-succ') (mod-mul n h (one-le-pow z g h))
+
+pub zeros_more : (g n z : ℕ) → 0 < g → n % g ^ z ≡ 0 → n / g ^ z % g ≡ 0 → n % g ^ (z + 1) ≡ 0
+zeros_more g n z h clear d = last_split g n z h ∙ rw (d, clear, zero-mul)
+
+pub zeros_only : (g n z : ℕ) → 0 < g → n % g ^ (z + 1) ≡ 0 → n / g ^ z % g ≡ 0
+zeros_only g n z h e = omega (arith, last_split g n z h, le-mul_of_pos_right (n / g ^ z % g) (one-le-pow z g h))
+
 -- every power of an odometer's base fits its type by far
 pub power_small : (g k : ℕ) → g ≤ 8 → k ≤ 16 → g ^ k ≤ 2 ^ 48
 power_small g k e s = le_trans (pow-le-pow_left e k) (pow-le-pow_right (omega arith) s)

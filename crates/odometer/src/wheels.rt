@@ -1,4 +1,7 @@
 // An odometer of up to sixteen wheels with up to eight digits each.
+ghost use Rattle.std.specs.Prelude.{◌≤◌};
+ghost use Rattle.odometer.specs.Digits.{total};
+
 use std::marker::Model;
 
 pub mod calls;
@@ -13,8 +16,14 @@ pub struct Odometer {
     base: u8,
     places: usize,
     number: u64,
+    // kept, since every step asks for it
+    count: u64,
     // Fixed memory that is copied: `arrayvec` is not `Copy`, so the places count the wheels in use.
     wheels: [u8; MAX_PLACES],
+    ghost some: { 1 ≤ base },
+    ghost eight: { base ≤ 8 },
+    ghost few: { places ≤ 16 },
+    ghost within: { number ≤ total base places },
 }
 
 // Clauses see the base, the places and the number.
@@ -30,8 +39,8 @@ impl Model for Odometer {
 
     ghost invariant = { Kept };
 
-    // The view forgets the wheels only, and they follow from it.
+    // The view forgets the total and the wheels only, and they follow from it.
     ghost inverse = { fields };
 
-    ghost inverse_ok = { λ o kept i. record o { wheels = sym kept.shown i } };
+    ghost inverse_ok = { λ o kept i. record o { count = sym kept.all i; wheels = sym kept.shown i } };
 }

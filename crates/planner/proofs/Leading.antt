@@ -21,7 +21,7 @@ use Rattle.planner.specs.Claim.{told, Right, Made, Answered, Answers, Led, Leads
 use Rattle.planner.specs.Events.{standing, settled_by}
 use Rattle.planner.specs.Refusals.{search_number}
 use Rattle.planner.specs.Search.{Problem, Found, Search, search, start, sets, Cheapest, Shows, Marked, mark_of, Ran}
-use Rattle.planner.specs.State.{State, opened, problem, sets_of, sought}
+use Rattle.planner.specs.State.{State, InBounds, opened, problem, sets_of, sought}
 use Rattle.planner.proofs.Histories.{standing_push, settled_push, answers_push}
 use Rattle.planner.proofs.Posed.{orderly}
 use Rattle.planner.proofs.Searches.{marked, shows_strides, strides_within}
@@ -70,6 +70,10 @@ made_by p x y allowance answer before after ran =
       ran = subst (Ran p x allowance answer) same ran;
     }
 
+-- states that agree in each part are the same
+pub same_state : {Q C : Type 0} (x : State Q C) {s : System} {n : ℕ} → x.stands ≡ s → x.search.settled ≡ n → x ≡ record { stands = s; test = x.test; search = search n x.search.shown }
+same_state x s n i = record { stands = s i; test = x.test; search = search (n i) x.search.shown }
+
 -- equal systems and tests pose the same problem
 same_problem : {Q C : Type 0} (q : tests.Ghosts Q) (t : Rates C) {s r : System} {test ask : Q} → s ≡ r → test ≡ ask → problem q t s test ≡ problem q t r ask
 same_problem q t s e i = problem q t (s i) (e i)
@@ -104,24 +108,25 @@ module _ {Q C : Type 0} {q : tests.Ghosts Q} {t : Rates C} where
       led opening test (events ++ (e ∷ [])) x (h.stands ∙ sym stands) h.asks (h.claim.settled ∙ sym settled) shows.1 shows.0 (answers_push q t opening test 0 events e h.claim.answers answered)
 
   -- a refused change
-  pub follows_refused_change : (x y : State Q C) (c : Change) (f : RosterRefusal) → First roster_number (ChangeRule x.stands c) f → y ≡ x → Follows q t x (Changed c (Err f)) y
-  follows_refused_change x y c f first is =
+  pub leads_refused_change : (x y : State Q C) (c : Change) (f : RosterRefusal) → First roster_number (ChangeRule x.stands c) f → y ≡ x → Leads q t x (Changed c (Err f)) y
+  leads_refused_change x y c f first is opening test events h =
       let e = Changed c (Err f) in
-      record {
-        happens = (first, is);
-        leads = λ opening test events h.
-            let answered = subst (λ s. First roster_number (ChangeRule s c) f) h.stands first in
-            subst (Led q t opening test (events ++ (e ∷ []))) (sym is) (led_same opening test events e x h (standing_push opening events e) (settled_push events e) answered);
-      }
+      let answered = subst (λ s. First roster_number (ChangeRule s c) f) h.stands first in
+      subst (Led q t opening test (events ++ (e ∷ []))) (sym is) (led_same opening test events e x h (standing_push opening events e) (settled_push events e) answered)
+
+  pub follows_refused_change : (x y : State Q C) (c : Change) (f : RosterRefusal) → InBounds x → First roster_number (ChangeRule x.stands c) f → y ≡ x → Follows q t x (Changed c (Err f)) y
+  follows_refused_change x y c f bounds first is =
+      record { happens = (first, is); leads = leads_refused_change x y c f first is; before = bounds; after = subst InBounds (sym is) bounds }
 
   -- a refused plan call
-  pub follows_refused_plan : (x y : State Q C) (allowance : ℕ) (f : SearchRefusal) → First search_number (PlanRule allowance) f → y ≡ x → Follows q t x (Planned allowance (Err f)) y
-  follows_refused_plan x y allowance f first is =
+  pub leads_refused_plan : (x y : State Q C) (allowance : ℕ) (f : SearchRefusal) → First search_number (PlanRule allowance) f → y ≡ x → Leads q t x (Planned allowance (Err f)) y
+  leads_refused_plan x y allowance f first is opening test events h =
       let e = Planned allowance (Err f) in
-      record {
-        happens = (first, is);
-        leads = λ opening test events h. subst (Led q t opening test (events ++ (e ∷ []))) (sym is) (led_same opening test events e x h (standing_push opening events e) (settled_push events e) first);
-      }
+      subst (Led q t opening test (events ++ (e ∷ []))) (sym is) (led_same opening test events e x h (standing_push opening events e) (settled_push events e) first)
+
+  pub follows_refused_plan : (x y : State Q C) (allowance : ℕ) (f : SearchRefusal) → InBounds x → First search_number (PlanRule allowance) f → y ≡ x → Follows q t x (Planned allowance (Err f)) y
+  follows_refused_plan x y allowance f bounds first is =
+      record { happens = (first, is); leads = leads_refused_plan x y allowance f first is; before = bounds; after = subst InBounds (sym is) bounds }
 
   module _ (laws : TestLaws q.passes) (order : AmountLaws t.none t.joined t.leq t.within) (one : (s : System) (i g : ℕ) → Keeps s → t.within 1 (t.priced s i g)) where
     pub leads : (x : State Q C) (e : Event) (y : State Q C) → Keeps x.stands → Happens q t x e y → Leads q t x e y
@@ -133,7 +138,7 @@ module _ {Q C : Type 0} {q : tests.Ghosts Q} {t : Rates C} where
         let fresh : Led q t opening test (events ++ (e ∷ [])) new =
         led opening test (events ++ (e ∷ [])) new stands h.asks (sym (settled_push events e)) (omega arith) (λ n less _. absurd (omega (arith, less))) (answers_push q t opening test 0 events e h.claim.answers answered) in
         subst (Led q t opening test (events ++ (e ∷ []))) (sym is) fresh
-    leads x (Changed c (Err f)) y keeps (first, is) opening test events h = (follows_refused_change x y c f first is).leads opening test events h
+    leads x (Changed c (Err f)) y keeps (first, is) opening test events h = leads_refused_change x y c f first is opening test events h
     leads x (Planned allowance (Ok answer)) y keeps (kept, moved) opening test events h =
         let e = Planned allowance (Ok answer) in
         let before = led_shows opening test events x h in
@@ -143,11 +148,11 @@ module _ {Q C : Type 0} {q : tests.Ghosts Q} {t : Rates C} where
         let settled : y.search.settled ≡ settled_by (events ++ (e ∷ [])) = sym ran.settled ∙ sym (settled_push events e) in
         let made = made_at _ _ _ _ allowance answer (same_problem q t h.stands h.asks) h.claim.settled (made_by (sought q t x) x.search y.search allowance answer before.0 shows ran) in
         led opening test (events ++ (e ∷ [])) y (moved.stands ∙ (h.stands ∙ sym (standing_push opening events e))) (moved.test ∙ h.asks) settled (rw moved.stands within) (subst (λ p. Shows p y.search) (sym (same_problem q t moved.stands moved.test)) shows) (answers_push q t opening test 0 events e h.claim.answers (kept, made))
-    leads x (Planned allowance (Err f)) y keeps (first, is) opening test events h = (follows_refused_plan x y allowance f first is).leads opening test events h
+    leads x (Planned allowance (Err f)) y keeps (first, is) opening test events h = leads_refused_plan x y allowance f first is opening test events h
 
     -- and what happens is all that a call owes
-    pub follows : (x : State Q C) (e : Event) (y : State Q C) → Keeps x.stands → Happens q t x e y → Follows q t x e y
-    follows x e y keeps happens = record { happens = happens; leads = leads x e y keeps happens }
+    pub follows : (x : State Q C) (e : Event) (y : State Q C) → InBounds x → InBounds y → Happens q t x e y → Follows q t x e y
+    follows x e y before after happens = record { happens = happens; leads = leads x e y before.keeps happens; before = before; after = after }
 
 module _ {Q C : Type 0} (q : tests.Ghosts Q) (t : Rates C) where
   -- at the opening

@@ -1,6 +1,6 @@
 -- The record of a list of calls, one entry after the other.
-use Rattle.std.proofs.Common.{◌≡◌, ℕ, ◌+◌, ◌<◌, List, [], ◌∷◌, ◌++◌, map, length, get_or, take, sym, refl, ◌∙◌, subst}
-use Rattle.std.proofs.lemmas.List.{append_assoc, append-nil, map_push, take_more}
+use Rattle.std.proofs.Common.{◌≡◌, ℕ, ◌+◌, ◌<◌, ◌≤◌, List, [], ◌∷◌, ◌++◌, map, length, get_or, take, sym, refl, ◌∙◌, subst}
+use Rattle.std.proofs.lemmas.List.{append_assoc, append-nil, map_push, take_all, take_more}
 use Rattle.model.specs.System.{System}
 use Rattle.schedulability.specs.declared.test.Test as tests
 use Rattle.planner.specs.Rates.{Rates}
@@ -10,7 +10,7 @@ use Rattle.planner.specs.declared.replay.Entry.{Entry}
 use Rattle.planner.specs.Calls.{call_of}
 use Rattle.planner.specs.Claim.{Claim, Led, Leads, Named, told, told_by}
 use Rattle.planner.specs.Events.{standing}
-use Rattle.planner.specs.Record.{Throughout}
+use Rattle.planner.specs.Record.{Throughout, Recorded}
 use Rattle.planner.specs.State.{State, opened}
 
 abbrev pub event_of : {C : Type 0} → Entry C → Event
@@ -51,3 +51,10 @@ module _ {Q C : Type 0} {q : tests.Ghosts Q} {t : Rates C} where
         claims = throughout_push x.stands x.test [] entries e h.claims (subst (Claim q t x.stands x.test (map event_of entries ++ (e.event ∷ []))) (sym tells) led.claim, subst (λ s. Named s e.findings) led.stands named);
         in_turn = map_push (λ e. call_of e.event) entries e ∙ ((λ i. h.in_turn i ++ (call i ∷ [])) ∙ sym (take_more calls n d less));
       })
+
+  -- after the last
+  pub recorded_all : (opening : System) (test : Q) (x : State Q C) (calls : List Call) (n : ℕ) (entries : List (Entry C)) (y : State Q C) → x ≡ opened opening test → length calls ≤ n → Recording q t x calls n entries y → Recorded q t opening test calls entries
+  recorded_all opening test x calls n entries y is all h = record {
+    in_turn = h.in_turn ∙ take_all n calls all;
+    claims = subst (λ z. Throughout q t z.stands z.test [] entries) is h.claims;
+  }

@@ -1,6 +1,7 @@
 -- What show writes.
-use Rattle.std.proofs.Common.{◌≡◌, ℕ, List, ◌++◌, length, drop, Some, ap, ◌∙◌, subst, arith}
+use Rattle.std.proofs.Common.{◌≡◌, ℕ, ◌≤◌, List, ◌++◌, length, drop, is_some, Some, ap, ◌∙◌, subst, arith}
 use Rattle.std.proofs.lemmas.List.{take_all, take-append-le}
+use Rattle.model.specs.Refusals.{AllKept}
 use Rattle.model.specs.System.{System}
 use Rattle.model.specs.declared.kinds.Task.{Task}
 use Rattle.odometer.proofs.Numbers.{length_digits}
@@ -8,10 +9,18 @@ use Rattle.schedulability.specs.declared.test.Test as tests
 use Rattle.planner.specs.Rates.{Rates}
 use Rattle.timing.specs.Times.{front}
 use Rattle.planner.specs.declared.events.Event.{Event}
+use Rattle.planner.specs.declared.refusals.SearchRefusal.TheVariants.{Allowance, ShortList, NothingShown}
+use Rattle.planner.specs.Calls.{ShowRule}
 use Rattle.planner.specs.Claim.{Led, posed}
 use Rattle.planner.specs.Events.{standing, settled_by}
 use Rattle.planner.specs.Search.{Found, Cheapest}
 use Rattle.planner.specs.State.{State, set_of}
+
+-- a set that is shown, and a list with a place for each task, keep the rules of show
+pub rules_kept : {Q C : Type 0} (x : State Q C) (list : List ℕ) (y : Found C) → x.search.shown ≡ Some y → length x.stands.tasks ≤ length list → AllKept (ShowRule x list)
+rules_kept x list y is long Allowance = tt
+rules_kept x list y is long ShortList = long
+rules_kept x list y is long NothingShown = ap is_some is
 
 -- the places past the tasks are those of the list before
 pub wrote : (s : System) (n : ℕ) (steps list : List ℕ) {tasks : List Task} → tasks ≡ s.tasks → steps ≡ set_of s n → steps ++ drop (length tasks) list ≡ set_of s n ++ drop (length s.tasks) list

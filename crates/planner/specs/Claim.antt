@@ -20,7 +20,7 @@ use Rattle.planner.specs.Changes.{ChangeRule}
 use Rattle.planner.specs.Events.{standing, stands_after, settled_by, settled_after}
 use Rattle.planner.specs.Search.{Problem, Found, search, Cheapest, NonePasses, Shows, Marked, mark_of, Ran}
 use Rattle.planner.specs.Shown.{number_of, steps_of, found_in}
-use Rattle.planner.specs.State.{State, problem, set_of, sets_of}
+use Rattle.planner.specs.State.{State, InBounds, problem, set_of, sets_of}
 
 -- what can be seen of a planner
 pub record Told (C : Type 0) : Type 0 where
@@ -92,10 +92,12 @@ module _ {Q C : Type 0} (q : tests.Ghosts Q) (t : Rates C) where
   abbrev pub Leads : State Q C → Event → State Q C → Type 0
   Leads x e y = (opening : System) (test : Q) (events : List Event) → Led opening test events x → Led opening test (events ++ (e ∷ [])) y
 
-  -- What an event does to a planner, and that whatever led to it leads on.
+  -- What an event does to a planner, that whatever led to it leads on, and what holds of it in any case.
   pub record Follows (x : State Q C) (e : Event) (y : State Q C) : Type 0 where
     pub happens : Happens q t x e y
     pub leads : Leads x e y
+    pub before : InBounds x
+    pub after : InBounds y
 
   -- What show says of the list that it was given: a set written there is the cheapest of those settled that pass,
   -- and where nothing is shown, none of them passes.

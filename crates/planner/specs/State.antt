@@ -1,12 +1,12 @@
 -- What a planner says: what stands, the test, and how far the search has come.
-use Rattle.std.specs.Prelude.{◌≡◌, ℕ, List, length}
-use Rattle.model.specs.System.{System}
+use Rattle.std.specs.Prelude.{◌≡◌, ℕ, ◌≤◌, List, length, Some}
+use Rattle.model.specs.System.{System, Keeps}
 use Rattle.odometer.specs.Digits.{digits, total}
 use Rattle.schedulability.specs.Floors.{WithinFloors}
 use Rattle.schedulability.specs.declared.test.Test as tests
 use Rattle.tariffs.specs.Charges.{charge_of}
 use Rattle.planner.specs.Rates.{Rates, amount_of, tariff_of}
-use Rattle.planner.specs.Search.{Problem, Search, start, Strides}
+use Rattle.planner.specs.Search.{Problem, Found, Search, start, Strides}
 
 -- the steps of a set by its number: its digits in base of the count of steps, most urgent task first
 abbrev pub set_of : System → ℕ → List ℕ
@@ -34,6 +34,13 @@ pub record State (Q C : Type 0) : Type 0 where
   pub stands : System
   pub test : Q
   pub search : Search C
+
+-- what holds of every planner, whatever led to it
+pub record InBounds {Q C : Type 0} (x : State Q C) : Type 0 where
+  pub keeps : Keeps x.stands
+  -- no more sets are settled than there are, and a shown one is numbered among them
+  pub settled : x.search.settled ≤ sets_of x.stands
+  pub shown : (y : Found C) → x.search.shown ≡ Some y → y.number ≤ sets_of x.stands
 
 abbrev pub opened : {Q C : Type 0} → System → Q → State Q C
 opened s test = record { stands = s; test = test; search = start }

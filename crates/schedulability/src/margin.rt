@@ -27,6 +27,7 @@ impl<T: Test> Test for Margin<T> {
     fn ask(&self, roster: &Roster, list: &[u8]) -> bool {
         roster
             .grown(self.percent)
-            .is_some_and(|grown| self.below.ask(&grown, list))
+            .as_ref()
+            .is_some_and(|grown| self.below.ask(grown, list))
     }
 }

@@ -1,5 +1,5 @@
 -- Parts and what is joined from them are the same thing.
-use Rattle.std.proofs.Common.{◌≡◌, ℕ, ◌+◌, eqb, List, [], ◌∷◌, ◌++◌, length, sym, refl, ap, ◌∙◌, inl, inr}
+use Rattle.std.proofs.Common.{◌≡◌, ℕ, ◌+◌, eqb, List, [], ◌∷◌, ◌++◌, length, sym, refl, ap, ◌∙◌, inl, inr, arith}
 use Rattle.std.specs.List.{AllByRecursion, slice_split, onto_first, join_with_byte}
 use Rattle.std.proofs.lemmas.List.{append-nil, append_cancel_right}
 use Rattle.std.proofs.lemmas.List.Splits.{length-slice_split, join_with_byte-slice_split}
@@ -23,6 +23,9 @@ joined_join sep (p ∷ (q ∷ ps)) = ap (λ more. p ++ (sep ∷ more)) (joined_j
 -- there is one part more than there are separators
 pub length_parts : (sep : ℕ) (bs : List ℕ) → length (parts sep bs) ≡ separators sep bs + 1
 length_parts sep bs = ap length (parts_split sep bs) ∙ length-slice_split (λ b. eqb b sep) bs
+
+pub parts_some : (sep : ℕ) (bs : List ℕ) → parts sep bs ≡ [] → ⊥
+parts_some sep bs e = omega (arith, length_parts sep bs, ap length e)
 
 -- without a separator there is one part, and a separator ends the first
 pub parts_whole : (sep : ℕ) (bs : List ℕ) → Free sep bs → parts sep bs ≡ bs ∷ []

@@ -1,7 +1,8 @@
 // The items of a line, with one space between two.
-ghost use Rattle.std.specs.Prelude.{◌≡◌, ℕ, List, [], length};
+ghost use Rattle.std.specs.Prelude.{◌≡◌, ℕ, List, Option, length};
 ghost use Rattle.std.specs.Iterator.{YieldsFirstRef, item_count};
-ghost use Rattle.std.specs.Option.{option_map_or};
+ghost use Rattle.std.specs.Option.{option_map};
+ghost use Rattle.text.specs.Left.{left};
 ghost use Rattle.text.specs.Lines.{space, parts};
 
 use crate::separators::{SPACE, cut};
@@ -15,14 +16,14 @@ pub struct Items<'a> {
 }
 
 impl<'a> Model for Items<'a> {
-    ghost Value = { List (List ℕ) };
+    ghost Value = { Option (List ℕ) };
 
-    ghost view = { λ i. option_map_or (λ line. parts space line.now) i.rest [] };
+    ghost view = { λ i. option_map (λ line. line.now) i.rest };
 }
 
 impl<'a> Items<'a> {
     pub fn new(line: &'a [u8]) -> Items<'a>
-        ensures { result ≡ parts space line.now }
+        ensures { left result ≡ parts space line.now }
     {
         Items { rest: Some(line) }
     }
@@ -31,9 +32,9 @@ impl<'a> Items<'a> {
 impl<'a> Iterator for Items<'a> {
     type Item = &'a [u8];
 
-    ghost next_gives = { YieldsFirstRef (λ items. items) };
+    ghost next_gives = { YieldsFirstRef left };
 
-    ghost remaining = { item_count (λ items. items) };
+    ghost remaining = { item_count left };
 
     fn next(&mut self) -> Option<&'a [u8]> {
         let line = self.rest?;
@@ -54,5 +55,12 @@ impl<'a> Iterator for Items<'a> {
 pub fn count(line: &[u8]) -> usize
     ensures { result ≡ length (parts space line.now) }
 {
-    line.iter().filter(|b| **b == SPACE).count() + 1
+    // A `filter` that counts took half as long again on a long line.
+    let mut count = 1;
+    for b in line {
+        if *b == SPACE {
+            count += 1;
+        }
+    }
+    count
 }

@@ -1,5 +1,5 @@
 // A text that is read line by line.
-ghost use Rattle.std.specs.Prelude.{◌≡◌, ◌+◌, ◌≤◌, [], length, Decides};
+ghost use Rattle.std.specs.Prelude.{◌≡◌, ◌≤◌, length};
 
 mod lines;
 
@@ -18,23 +18,25 @@ pub struct Reader<'a> {
     bytes: &'a [u8],
     at: usize,
     number: usize,
+    // Every line handed out lies before the place, with a byte of its own.
+    ghost within: { at ≤ length bytes.now },
+    ghost few: { number ≤ at },
 }
 
 impl<'a> Model for Reader<'a> {
-    ghost use Rattle.std.specs.Prelude.{◌≤◌, length, drop};
     ghost use Rattle.text.specs.Reading.{Reading};
 
     ghost Value = { Reading };
 
-    ghost view = { λ r. record { bytes = r.bytes.now; rest = drop r.at r.bytes.now; number = r.number } };
-
-    // Every line handed out lies before the place, with a byte of its own.
-    ghost invariant = { λ r. (r.at ≤ length r.bytes.now) × (r.number ≤ r.at) };
+    ghost view = { λ r. record { bytes = r.bytes.now; at = r.at; number = r.number; within = r.within; few = r.few } };
 }
 
 impl<'a> Reader<'a> {
+    ghost use Rattle.std.specs.Prelude.{◌≡◌, [], Decides};
+    ghost use Rattle.text.specs.Reading.{rest};
+
     pub fn new(bytes: &'a [u8]) -> Reader<'a>
-        ensures rest { result.rest ≡ bytes.now }
+        ensures rest { rest result ≡ bytes.now }
         ensures number { result.number ≡ 0 }
     {
         Reader {
@@ -46,22 +48,21 @@ impl<'a> Reader<'a> {
 
     // How many lines were handed out.
     pub fn number(&self) -> usize
-        ensures value { result ≡ self.now.number }
-        ensures few { result + length self.now.rest ≤ length self.now.bytes }
+        ensures { result ≡ self.now.number }
     {
         self.number
     }
 
     // What is left to read.
     fn rest(&self) -> &'a [u8]
-        ensures { result.now ≡ self.now.rest }
+        ensures { result.now ≡ rest self.now }
     {
         &self.bytes[self.at..]
     }
 
     // Whether nothing is left to read.
     pub fn at_end(&self) -> bool
-        ensures { Decides result (self.now.rest ≡ []) }
+        ensures { Decides result (rest self.now ≡ []) }
     {
         self.rest().is_empty()
     }

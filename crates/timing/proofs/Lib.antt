@@ -1,3 +1,4 @@
+pub mod Chosen
 pub mod Demands
 pub mod Blockers
 pub mod Faster

@@ -59,13 +59,16 @@ impl<T: Copy + Default, const N: usize> Table<T, N> {
         requires { F.IsAlwaysCallable keep }
         ensures { (test : T → Bool) → ((x : T) (b : Bool) → FnReturnsAt F.Fn keep x b → b ≡ test x) → held self.new ≡ filter test (held self.old) }
     {
-        let mut kept = Table::empty();
-        for item in self.as_slice() {
-            if keep(item) {
-                kept.push(*item);
+        // By index, in its place: a second table costs a fill and a copy of all its places.
+        let mut kept = 0;
+        for i in 0..self.len {
+            let item = self.items[i];
+            if keep(&item) {
+                self.items[kept] = item;
+                kept += 1;
             }
         }
-        *self = kept;
+        self.len = kept;
     }
 
     // Each item with its change, or nothing where one has none.
@@ -73,11 +76,15 @@ impl<T: Copy + Default, const N: usize> Table<T, N> {
         requires { F.IsAlwaysCallable change }
         ensures { (f : T → Option T) → ((x : T) (r : Option T) → F.post change x r → r ≡ f x) → MatchOption result (Contains (map f (held self.now)) None) (λ t. map Some (held t) ≡ map f (held self.now)) }
     {
-        let mut changed = Table::empty();
-        for item in self.as_slice() {
-            changed.push(change(*item)?);
+        // By index, over a copy: a new table costs a fill of all its places.
+        let mut items = self.items;
+        for i in 0..self.len {
+            items[i] = change(self.items[i])?;
         }
-        Some(changed)
+        Some(Table {
+            items,
+            len: self.len,
+        })
     }
 }
 

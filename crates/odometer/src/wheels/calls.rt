@@ -1,7 +1,6 @@
 // The calls of an odometer.
-ghost use Rattle.std.specs.Prelude.{◌≡◌, ℕ, ◌+◌, ◌^◌, ◌<◌, ◌≤◌, min, max};
+ghost use Rattle.std.specs.Prelude.{◌≡◌, ℕ, ◌+◌, ◌<◌, ◌≤◌, min, max};
 ghost use Rattle.std.specs.List.{AllZip};
-ghost use Rattle.odometer.specs.Counter.{InRange};
 ghost use Rattle.odometer.specs.Digits.{digits, total, Zeros, next_multiple};
 
 use super::{MAX_BASE, MAX_PLACES, Odometer, turns};
@@ -13,10 +12,13 @@ impl Odometer {
         ensures places { result.places ≡ min places 16 }
         ensures number { result.number ≡ 0 }
     {
+        let base = base.clamp(1, MAX_BASE);
+        let places = places.min(MAX_PLACES);
         Odometer {
-            base: base.clamp(1, MAX_BASE),
-            places: places.min(MAX_PLACES),
+            base,
+            places,
             number: 0,
+            count: turns::power(base, places),
             wheels: [0; MAX_PLACES],
         }
     }
@@ -27,21 +29,11 @@ impl Odometer {
         self.number
     }
 
-    // A power of the base, as far as there are wheels.
-    fn power(&self, k: usize) -> u64
-        requires { k ≤ 16 }
-        ensures { result ≡ self.now.base ^ k }
-    {
-        // std has no `From` for a usize as u32
-        u64::from(self.base).pow(k as u32)
-    }
-
-    // How many numbers there are. A caller sees the counter alone, so `range` says what always holds of it.
+    // How many numbers there are.
     pub fn total(&self) -> u64
-        ensures total { result ≡ total self.now.base self.now.places }
-        ensures range { InRange self.now }
+        ensures { result ≡ total self.now.base self.now.places }
     {
-        self.power(self.places)
+        self.count
     }
 
     // The digits of the number, the most significant first. Past the last number all are 0.
@@ -53,8 +45,7 @@ impl Odometer {
 
     // The count of zero digits at the end.
     pub fn zeros(&self) -> usize
-        ensures zeros { Zeros self.now.base self.now.places self.now.number result }
-        ensures range { InRange self.now }
+        ensures { Zeros self.now.base self.now.places self.now.number result }
     {
         self.wheels[..self.places]
             .iter()
@@ -69,7 +60,7 @@ impl Odometer {
         requires left { self.now.number < total self.now.base self.now.places }
         ensures { result ≡ next_multiple self.now.base k self.now.number }
     {
-        (self.number + 1).next_multiple_of(self.power(k))
+        (self.number + 1).next_multiple_of(turns::power(self.base, k))
     }
 
     // On to the least multiple of base ^ k above the number, or past the last number where that is less.
@@ -78,13 +69,15 @@ impl Odometer {
         ensures places { self.new.places ≡ self.old.places }
         ensures number { self.new.number ≡ min (next_multiple self.old.base k self.old.number) (total self.old.base self.old.places) }
     {
-        if self.number >= self.total() {
+        if self.number >= self.count {
             return;
         }
         let (base, places) = (self.base, self.places);
         let cleared = k.min(places);
         self.number = self.next_multiple(cleared);
-        turns::forward(&mut self.wheels[..places], base, cleared);
+        let mut wheels = self.wheels;
+        turns::forward(&mut wheels[..places], base, cleared);
+        self.wheels = wheels;
     }
 
     // On past every number that has in no place a smaller digit than this one.

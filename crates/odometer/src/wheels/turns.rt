@@ -1,6 +1,16 @@
-// The turns of an odometer's wheels.
-ghost use Rattle.std.specs.Prelude.{◌≡◌, ℕ, ◌≤◌, length};
+// The turns of an odometer's wheels, and the powers of its base.
+ghost use Rattle.std.specs.Prelude.{◌≡◌, ℕ, ◌^◌, ◌≤◌, length};
 ghost use Rattle.odometer.specs.Digits.{digits, next_multiple};
+
+// A power of a base, as far as there are wheels.
+pub(super) fn power(base: u8, k: usize) -> u64
+    requires base { base ≤ 8 }
+    requires few { k ≤ 16 }
+    ensures { result ≡ base ^ k }
+{
+    // std has no `From` for a usize as u32
+    u64::from(base).pow(k as u32)
+}
 
 // On from a number to the next multiple of base ^ k: the last wheel before the k last that has room goes on by one, and
 // all after it become 0. Past the greatest number they start again at 0.

@@ -9,7 +9,7 @@ ghost use Rattle.planner.specs.declared.events.Event.{Event as Happening};
 ghost use Rattle.planner.specs.declared.events.Event.TheVariants.{Changed, Planned};
 ghost use Rattle.planner.specs.Calls.{PlanRule, ShowRule, written, call_of};
 ghost use Rattle.planner.specs.Claim.{Claim, Follows, Led, Named, Seen, told, told_by};
-ghost use Rattle.planner.specs.State.{opened};
+ghost use Rattle.planner.specs.State.{opened, InBounds};
 
 use super::Planner;
 use super::search::{apply, first_set};
@@ -41,6 +41,7 @@ impl<Q: Test, C: Tariff> Planner<Q, C> {
     pub fn open(roster: Roster, test: Q) -> Planner<Q, C>
         ensures state { result ≡ opened (of roster) test }
         ensures led { Led Q.Test C.Tariff (of roster) test [] result }
+        ensures bounds { InBounds result }
     {
         Planner {
             roster,
@@ -96,6 +97,8 @@ impl<Q: Test, C: Tariff> Planner<Q, C> {
     pub fn plan(&mut self, allowance: u32) -> Result<Progress, SearchRefusal>
         ensures { Follows Q.Test C.Tariff self.old (Planned allowance result) self.new }
     {
+        // The planner is opened to the proof, since what holds of it is promised on a refusal too.
+        let _ = &self.roster;
         judge_allowance(allowance)?;
         let strides = self.walk(allowance);
         Ok(self.progress(strides))
@@ -116,6 +119,7 @@ impl<Q: Test, C: Tariff> Planner<Q, C> {
     pub fn show(&self, list: &mut [u8]) -> Result<(), SearchRefusal>
         ensures outcome { Outcome search_number (ShowRule self.now list.old) list.old (written self.now.stands self.now.search.shown list.old) list.new result }
         ensures claim { (opening : System) (test : Q) (events : List Happening) → Led Q.Test C.Tariff opening test events self.now → Seen Q.Test C.Tariff opening test events list.new result }
+        ensures bounds { InBounds self.now }
     {
         let tasks = self.roster.tasks().len();
         if list.len() < tasks {
@@ -135,6 +139,7 @@ impl<Q: Test + Drop, C: Tariff> Planner<Q, C> {
         ensures told { told_by result ≡ told self }
         ensures steps { Named self.stands result }
         ensures claim { (opening : System) (test : Q) (events : List Happening) → Led Q.Test C.Tariff opening test events self → Claim Q.Test C.Tariff opening test events (told_by result) }
+        ensures bounds { InBounds self }
     {
         self.findings()
     }

@@ -2,12 +2,11 @@
 ghost use Rattle.std.specs.Prelude.{◌≡◌, ℕ, ◌+◌, ◌<◌, ◌≤◌, ◌⊎◌, length, Some, Decides};
 ghost use Rattle.model.specs.Of.{of};
 ghost use Rattle.model.specs.Refusals.{roster_number, Outcome};
-ghost use Rattle.model.specs.System.{Keeps};
 ghost use Rattle.planner.specs.Changes.{ChangeRule, left_by};
 ghost use Rattle.planner.specs.Claim.{Named, told, told_by};
 ghost use Rattle.planner.specs.Search.{cheaper as cheaper_of, looked_at};
 ghost use Rattle.planner.specs.Shown.{found, found_in};
-ghost use Rattle.planner.specs.State.{State, sets_of, sought, Walked};
+ghost use Rattle.planner.specs.State.{State, InBounds, sets_of, sought, Walked};
 
 use super::Planner;
 use crate::events::{Change, Progress};
@@ -126,7 +125,7 @@ impl<Q: Test, C: Tariff> Planner<Q, C> {
         ensures mark { result.mark ≡ (told self.now).mark }
         ensures settled { result.settled ≡ (told self.now).settled }
         ensures strides { result.strides ≡ strides }
-        ensures keeps { Keeps self.now.stands }
+        ensures bounds { InBounds self.now }
     {
         Progress {
             mark: self.mark(),
@@ -138,6 +137,7 @@ impl<Q: Test, C: Tariff> Planner<Q, C> {
     pub(crate) fn findings(&self) -> Findings<C>
         ensures told { told_by result ≡ told self.now }
         ensures steps { Named self.now.stands result }
+        ensures bounds { InBounds self.now }
     {
         Findings {
             mark: self.mark(),

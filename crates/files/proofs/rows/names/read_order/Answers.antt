@@ -2,6 +2,7 @@ use Rattle.std.proofs.Common.{◌≡◌, ℕ, [], ◌+◌, ◌<◌, length, take
 use Rattle.std.specs.Iterator.Adapters.{enumerate_source, enumerate_count}
 use Rattle.std.proofs.lemmas.List.{length-set}
 use Rattle.std.proofs.lemmas.Bool.{false≢true}
+use Rattle.text.specs.Left.{left}
 use Rattle.text.specs.Lines.{space, parts}
 use Rattle.files.specs.Columns.{Adds, AddsNone}
 use Rattle.files.specs.Layout.{Names}
@@ -18,7 +19,7 @@ returns-in_err-order c =
     let s = c.loop-place.place-iterator in
     let here = c.in-Some.ensures.steps in
     let count = c.if-not-fills.ensures.0 refl in
-    let (lt, at, _) = next_at (parts space text) (enumerate_source s) (enumerate_source c.next.new.self) c.in-Some.item.now [] (enumerate_count s) c.loop-place.invariant.2 here.0 in
+    let (lt, at, _) = next_at (parts space text) (left (enumerate_source s)) (left (enumerate_source c.next.new.self)) c.in-Some.item.now [] (enumerate_count s) c.loop-place.invariant.2 here.0 in
     let none : AddsNone b (take (enumerate_count s) c.loop-place.order) c.in-Some.item.now = rw here.1 at c.in_err-order.ensures in
     rw c.from_residual.ensures
     (named_none b (take (enumerate_count s) c.loop-place.order) text (enumerate_count s) (omega (arith, count, lt)) c.loop-place.invariant.3 (rw at none))
@@ -32,7 +33,7 @@ loop-place-preserved c =
     let k = c.in_ok-order.field-0 in
     let here = c.in-Some.ensures.steps in
     let count = c.if-not-fills.ensures.0 refl in
-    let (lt, at, rest) = next_at ps (enumerate_source s) (enumerate_source c.next.new.self) c.in-Some.item.now [] (enumerate_count s) c.loop-place.invariant.2 here.0 in
+    let (lt, at, rest) = next_at ps (left (enumerate_source s)) (left (enumerate_source c.next.new.self)) c.in-Some.item.now [] (enumerate_count s) c.loop-place.invariant.2 here.0 in
     let adds : Adds b (take (enumerate_count s) o) c.in-Some.item.now k = rw here.1 at c.in_ok-order.ensures in
     let room : enumerate_count s < length o = omega (arith, lt, count, width_few b, c.loop-place.invariant.4) in
     let more : Named b (take (enumerate_count s + 1) (set o (enumerate_count s) k)) ps (enumerate_count s + 1) =

@@ -4,6 +4,7 @@ use Rattle.std.specs.Slice.Iter.{iter_rest}
 use Rattle.std.proofs.lemmas.List.{length-drop, length-set}
 use Rattle.arrayvec.proofs.ArrayVecLemmas.{items-with_items}
 use Rattle.std.proofs.lemmas.Result.{err_from_is_err_and}
+use Rattle.text.specs.Left.{left}
 use Rattle.text.specs.Lines.{space, parts}
 use Rattle.files.specs.Blocks.{width}
 use Rattle.files.specs.Columns.{order_of}
@@ -19,7 +20,7 @@ returns-in_err-row c =
     let t = c.next.new.self in
     let i = enumerate_count s in
     let here = c.in-Some.ensures.steps in
-    let (lt, at, _) = next_at (parts space text) (zip_first (enumerate_source s)) (zip_first (enumerate_source t)) c.in-Some.item.now [] i c.loop-i.invariant.2 here.0.0 in
+    let (lt, at, _) = next_at (parts space text) (left (zip_first (enumerate_source s))) (left (zip_first (enumerate_source t))) c.in-Some.item.now [] i c.loop-i.invariant.2 here.0.0 in
     let (low, on, _) = next_at (order_of cs) (iter_rest (zip_second (enumerate_source s))) (iter_rest (zip_second (enumerate_source t))) c.in-Some.column.now 0 i c.loop-i.invariant.3 here.0.1 in
     let inside : i < width cs.block = omega (arith, lt, c.requires) in
     let p = err_from_is_err_and c.from_residual.result c.from_residual.ensures.1 in
@@ -38,7 +39,7 @@ loop-i-preserved c =
     let i = enumerate_count s in
     let column = c.in-Some.column.now in
     let here = c.in-Some.ensures.steps in
-    let (lt, at, rest) = next_at (parts space text) (zip_first (enumerate_source s)) (zip_first (enumerate_source t)) c.in-Some.item.now [] i c.loop-i.invariant.2 here.0.0 in
+    let (lt, at, rest) = next_at (parts space text) (left (zip_first (enumerate_source s))) (left (zip_first (enumerate_source t))) c.in-Some.item.now [] i c.loop-i.invariant.2 here.0.0 in
     let (low, on, others) = next_at (order_of cs) (iter_rest (zip_second (enumerate_source s))) (iter_rest (zip_second (enumerate_source t))) column 0 i c.loop-i.invariant.3 here.0.1 in
     let inside : i < width cs.block = omega (arith, lt, c.requires) in
     let more : Filled cs.block (order_of cs) text (set row column c.in_ok-row.field-0) (i + 1) =
@@ -62,7 +63,7 @@ returns c =
     let s = c.loop-i.i-iterator in
     let i = enumerate_count s in
     let ended : width cs.block ≤ i = ⊎_elim
-    (λ first. omega (arith, c.requires, past_end (parts space text) (zip_first (enumerate_source s)) i c.loop-i.invariant.2 first.1.0))
+    (λ first. omega (arith, c.requires, past_end (parts space text) (left (zip_first (enumerate_source s))) i c.loop-i.invariant.2 first.1.0))
     (λ second. omega (arith, cs.isorder.whole, length-drop i (order_of cs), ap length c.loop-i.invariant.3, second.1.0))
     c.in-None.ensures.steps.0 in
     row_filled cs.block (order_of cs) text row cs.isorder c.loop-i.invariant.5 c.requires (λ j low. c.loop-i.invariant.4 j (omega (arith, low, ended)))

@@ -7,15 +7,15 @@ use Rattle.odometer.proofs.wheels.Odometer.next_multiple.Goals as goal
 
 pub overflow_add-self-inside : goal.overflow_add-self-inside
 overflow_add-self-inside c =
-    let range = c.self.invariant.range in
+    let range = c.self.inside in
     let left = rw (← c.self.view_is) at c.requires.left in
     omega (arith, left, power_small c.self.inside.base c.self.inside.places range.eight range.few)
 
 pub next_multiple_of-requires : goal.next_multiple_of-requires
 next_multiple_of-requires c =
     let o = counter c.self.inside in
-    let range = c.self.invariant.range in
-    let power = rw (← c.self.view_is) at c.power.ensures in
+    let range = c.self.inside in
+    let power = c.power.ensures in
     let few = rw (← c.self.view_is) at c.requires.few in
     let left = rw (← c.self.view_is) at c.requires.left in
     let within = next_within o.base c.args.k o.places o.number range.some left few in
@@ -28,5 +28,5 @@ next_multiple_of-requires c =
 pub returns : goal.returns
 returns c =
     let o = counter c.self.inside in
-    let power = rw (← c.self.view_is) at c.power.ensures in
-    c.next_multiple_of.ensures.value ∙ rw (← c.self.view_is, power) (next_from o.base c.args.k o.number c.self.invariant.range.some)
+    let power = c.power.ensures in
+    c.next_multiple_of.ensures.value ∙ rw (← c.self.view_is, power) (next_from o.base c.args.k o.number c.self.inside.some)

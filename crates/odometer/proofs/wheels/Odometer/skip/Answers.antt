@@ -7,10 +7,10 @@ pub returns-clause-number : goal.returns-clause-number
 returns-clause-number c z is =
     let o = c.args.self.now in
     c.advance.ensures.number
-    ∙ ap (λ k. min (next_multiple o.base (k + 1) o.number) (total o.base o.places)) (zeros_unique o.base o.places o.number _ z c.zeros.ensures.zeros is)
+    ∙ ap (λ k. min (next_multiple o.base (k + 1) o.number) (total o.base o.places)) (zeros_unique o.base o.places o.number _ z c.zeros.ensures is)
 
 pub returns-clause-passed : goal.returns-clause-passed
 returns-clause-passed c n from below =
     let o = c.args.self.now in
     let short : n < next_multiple o.base (c.zeros.result + 1) o.number = omega (arith, below, c.advance.ensures.number) in
-    skip o.base o.places c.zeros.result o.number n c.zeros.ensures.range.some c.zeros.ensures.zeros.clear from short
+    skip o.base o.places c.zeros.result o.number n o.some c.zeros.ensures.clear from short

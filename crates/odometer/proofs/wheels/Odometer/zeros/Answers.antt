@@ -17,4 +17,4 @@ returns c =
     (YieldsList-from_take_while _ (λ d. d == 0) (YieldsList-from_rev_slice ws (cc)) c.take_while.ensures.closure c.take_while.ensures.done (λ x b q k. search (rules, tests)))
     ∙ length-prefix_len (λ d. d == 0) (reverse ws)
     in
-    rw (← c.self.view_is, counted, shown) (record { zeros = zeros_counted o.base o.places o.number c.self.invariant.range.some; range = c.self.invariant.range })
+    rw (← c.self.view_is, counted, shown) (zeros_counted o.base o.places o.number o.some)

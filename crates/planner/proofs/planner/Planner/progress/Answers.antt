@@ -1,5 +1,5 @@
-use Rattle.model.proofs.Kept.{kept}
+use Rattle.planner.proofs.Bounds.{in_bounds}
 use Rattle.planner.proofs.planner.Planner.progress.Goals as goal
 
-pub returns-clause-keeps : goal.returns-clause-keeps
-returns-clause-keeps g c = rw (← c.self.view_is) (kept c.self.inside.roster)
+pub returns-clause-bounds : goal.returns-clause-bounds
+returns-clause-bounds g c = rw (← c.self.view_is) (in_bounds c.self.inside c.self.invariant)

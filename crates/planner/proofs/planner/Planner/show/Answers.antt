@@ -4,6 +4,7 @@ use Rattle.model.specs.Of.{of}
 use Rattle.odometer.proofs.Numbers.{length_digits}
 use Rattle.planner.specs.Parts.{state}
 use Rattle.planner.specs.Shown.{found, found_in}
+use Rattle.planner.proofs.Bounds.{in_bounds}
 use Rattle.planner.proofs.Showing.{wrote, written_cheapest}
 use Rattle.planner.proofs.Striding.{set_at}
 use Rattle.planner.proofs.planner.Planner.show.Goals as goal
@@ -23,3 +24,12 @@ returns-clause-claim g c =
     let steps = set_at s x.at.base x.at.places x.at.number c.copy_from_slice.new.self copied (c.self.invariant.shown_base x c.in-Some.is) (c.self.invariant.shown_places x c.in-Some.is) in
     let after = wrote s x.at.number c.copy_from_slice.new.self c.args.list.now c.tasks-tasks.ensures steps in
     rw (← c.self.view_is) (λ opening test events h. written_cheapest opening test events (state p) (found x) _ _ (ap found_in c.in-Some.is) after h)
+
+pub returns-clause-bounds : goal.returns-clause-bounds
+returns-clause-bounds g c = rw (← c.self.view_is) (in_bounds c.self.inside c.self.invariant)
+
+pub returns-then-list-tasks-clause-bounds : goal.returns-then-list-tasks-clause-bounds
+returns-then-list-tasks-clause-bounds g c = rw (← c.self.view_is) (in_bounds c.self.inside c.self.invariant)
+
+pub returns-in_default-clause-bounds : goal.returns-in_default-clause-bounds
+returns-in_default-clause-bounds g c = rw (← c.self.view_is) (in_bounds c.self.inside c.self.invariant)
