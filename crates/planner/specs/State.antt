@@ -38,7 +38,7 @@ pub record State (Q C : Type 0) : Type 0 where
 -- what holds of every planner, whatever led to it
 pub record InBounds {Q C : Type 0} (x : State Q C) : Type 0 where
   pub keeps : Keeps x.stands
-  -- no more sets are settled than there are, and a shown one is numbered among them
+  -- no more sets are settled than there are, and none is shown of a number above their count
   pub settled : x.search.settled ≤ sets_of x.stands
   pub shown : (y : Found C) → x.search.shown ≡ Some y → y.number ≤ sets_of x.stands
 

@@ -55,7 +55,7 @@ impl<'a> Iterator for Items<'a> {
 pub fn count(line: &[u8]) -> usize
     ensures { result ≡ length (parts space line.now) }
 {
-    // A `filter` that counts took half as long again on a long line.
+    // A `filter` that counts took 1.6 times as long on a long line.
     let mut count = 1;
     for b in line {
         if *b == SPACE {

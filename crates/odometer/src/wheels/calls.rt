@@ -75,6 +75,7 @@ impl Odometer {
         let (base, places) = (self.base, self.places);
         let cleared = k.min(places);
         self.number = self.next_multiple(cleared);
+        // out and back: no rule covers a loan of one field of a value whose other fields have a proof beside them
         let mut wheels = self.wheels;
         turns::forward(&mut wheels[..places], base, cleared);
         self.wheels = wheels;

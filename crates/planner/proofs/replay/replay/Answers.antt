@@ -1,5 +1,6 @@
 use Rattle.std.proofs.Common.{vec_items, arith}
-use Rattle.planner.proofs.Recording.{recorded_none, recorded_more}
+use Rattle.model.specs.Of.{of}
+use Rattle.planner.proofs.Recording.{recorded_none, recorded_more, recorded_all}
 use Rattle.planner.proofs.replay.replay.Goals as goal
 
 pub loop-call-init : goal.loop-call-init
@@ -15,3 +16,8 @@ loop-call-preserved g c =
     let z = c.record_call.new.planner in
     let more = recorded_more x c.args.calls.now c.loop-call.call-index _ (vec_items c.loop-call.entries) _ y z _ c.loop-call-test.true c.loop-call.invariant.0 c.record_call.ensures.call c.record_call.ensures.leads c.record_call.ensures.told c.record_call.ensures.steps c.push_reserved.ensures.items in
     (more, omega (arith, c.push_reserved.ensures.len, c.loop-call.invariant.1), omega (arith, c.push_reserved.ensures.capacity, c.loop-call.invariant.2))
+
+pub returns : goal.returns
+returns g c =
+    recorded_all (of c.args.roster) c.args.test c.open-planner.result c.args.calls.now c.loop-call.call-index (vec_items c.loop-call.entries) c.loop-call.planner
+    c.open-planner.ensures.state (omega (arith, c.loop-call-test.false)) c.loop-call.invariant.0
